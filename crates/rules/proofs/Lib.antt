@@ -1,0 +1,13 @@
+pub mod BoolLaws
+pub mod AllLaws
+pub mod RowLaws
+pub mod CountLaws
+pub mod TallyLaws
+pub mod GroupLaws
+pub mod StoreLaws
+pub mod ProcessLaws
+pub mod SoundLaws
+pub mod StepLaws
+pub mod CourseLaws
+pub mod Unique
+pub mod Table

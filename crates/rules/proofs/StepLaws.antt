@@ -1,0 +1,46 @@
+-- How the tests of a step pick its course. Assumes nothing.
+use mathlib.Core.Path.{_≡_, refl, ap}
+use mathlib.Core.Bool.{Bool, true, false}
+use Prim.Native.Nat.{ℕ}
+use lib.Dec.{ltb}
+use Rattle.rules.specs.declared.process.Process.{Process}
+use Rattle.rules.specs.declared.process.Next.{Next}
+use Rattle.rules.specs.declared.step.Course.{Course}
+use Rattle.rules.specs.declared.step.Course.the-variants.{Idles, Refuses, Takes}
+use Rattle.rules.specs.Limits.{lastRound}
+use Rattle.rules.specs.Events.{cutIf, onSuspect}
+use Rattle.rules.specs.Step.{idles, orIdle}
+use Rattle.rules.specs.Parts.{orPast, unlessPast, orImpossible}
+
+module _ (cut : Bool) (i : ℕ) (p : Process) (x : Next) where
+  -- a delivery that is idle, and one that is not
+  pub idle-yes : {b : Bool} → b ≡ true → idles cut i p ≡ orIdle b cut i p x
+  unfolding orIdle
+  idle-yes e = rw e
+
+  pub idle-no : {b : Bool} → b ≡ false → Takes i (cutIf cut x) ≡ orIdle b cut i p x
+  unfolding orIdle
+  idle-no e = rw e
+
+  -- an F that is idle, one that would take the process past the last round, and one that is taken
+  pub past-idle : {b : Bool} → b ≡ true → idles cut i p ≡ orPast b cut i p x
+  unfolding orPast
+  past-idle e = rw e
+
+  pub past-yes : {b : Bool} → b ≡ false → ltb lastRound (x .process .round) ≡ true → Refuses 8 ≡ orPast b cut i p x
+  unfolding orPast unlessPast
+  past-yes e t = rw (e, t)
+
+  pub past-no : {b : Bool} → b ≡ false → ltb lastRound (x .process .round) ≡ false → Takes i (cutIf cut x) ≡ orPast b cut i p x
+  unfolding orPast unlessPast
+  past-no e t = rw (e, t)
+
+module _ (cut : Bool) (i : ℕ) (p : Process) where
+  -- a suspicion that is possible, and one that is not
+  pub possible-yes : {b : Bool} → b ≡ true → Takes i (cutIf cut (onSuspect p)) ≡ orImpossible b cut i p
+  unfolding orImpossible
+  possible-yes e = rw e
+
+  pub possible-no : {b : Bool} → b ≡ false → Refuses 7 ≡ orImpossible b cut i p
+  unfolding orImpossible
+  possible-no e = rw e

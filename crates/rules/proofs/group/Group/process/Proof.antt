@@ -1,0 +1,51 @@
+-- `Group::process` meets its contract: the test of the number picks the case of the definition. Assumes nothing.
+use Rattle.rules.proofs.RowLaws.{among-true}
+use Rattle.rules.specs.Refusals.{among}
+use Rattle.rules.specs.Records.{processAt, recordOf, recordIf, blank}
+use Rattle.rules.specs.declared.group.Group.{Group}
+use borrow.Author.Tests.{not-true, not-false}
+use native.Mathlib.Omega.{arith}
+use Prim.Native.Nat.{ℕ}
+use mathlib.Core.Bool.{true, false}
+use mathlib.Core.Path.{_≡_, refl, sym, _∙_}
+use borrow.Author.Needs.{needs}
+use Rattle.rules.proofs.group.Group.process.Statement.{statement}
+use Rattle.rules.proofs.group.Group.process.Tie as tie
+use Rattle.rules.proofs.group.Group.process.Reads as reads
+use Rattle.rules.proofs.group.Group.process.Lts as lts
+use Rattle.rules.proofs.group.among.Reads as among-reads
+use Rattle.rules.proofs.group.take_out.Reads as take-out-reads
+use Rattle.rules.proofs.process.Process.blank.Reads as blank-reads
+
+-- {helpers}
+outside : (g : Group) (i : ℕ) → among 16 i ≡ false → blank ≡ recordOf g i
+unfolding recordOf recordIf among
+outside g i a = rw a
+
+inside : (g : Group) (i : ℕ) → among 16 i ≡ true → processAt g i ≡ recordOf g i
+unfolding recordOf recordIf among
+inside g i a = rw a
+-- {end}
+
+among-requires : tie.Need-among-requires
+among-requires c κs = search needs
+
+blank-requires : tie.Need-blank-requires
+blank-requires c κs = search needs
+
+returns : tie.Need-returns
+returns c = c .blank .ensures ∙ outside _ _ (sym (c .before .before .among .ensures) ∙ not-true _ (c .before .if1 .taken))
+
+cast-take-out : tie.Need-cast-take-out
+cast-take-out c = omega (arith, among-true 16 (c .before .before .before .before .before .before .before .before .before .before .args .i) (sym (c .before .before .before .before .before .before .before .before .before .among .ensures) ∙ not-false _ (c .before .before .before .before .before .before .before .before .if1 .left)))
+
+take-out-requires : tie.Need-take-out-requires
+take-out-requires c κs = omega (arith, among-true 16 (c .before .before .before .before .before .before .before .before .before .before .args .i) (sym (c .before .before .before .before .before .before .before .before .before .among .ensures) ∙ not-false _ (c .before .before .before .before .before .before .before .before .if1 .left)))
+
+returns-2 : tie.Need-returns-2
+returns-2 c = c .take-out .ensures (c .before .before .before .before .before .before .before .before .before .before .before .args .self .n) ∙ inside _ _ (sym (c .before .before .before .before .before .before .before .before .before .before .among .ensures) ∙ not-false _ (c .before .before .before .before .before .before .before .before .before .if1 .left))
+
+pub process-spec : {M : Type 1} → statement M
+process-spec =
+    tie.close
+    (tie.spec among-requires blank-requires returns cast-take-out take-out-requires returns-2)

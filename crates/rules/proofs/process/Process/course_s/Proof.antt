@@ -1,0 +1,38 @@
+-- `Process::course_s` meets its contract: idle, or the event. Assumes nothing.
+use Rattle.rules.proofs.StepLaws.{idle-yes, idle-no}
+use Rattle.rules.specs.Events.{onS}
+use mathlib.Core.Path.{sym, _∙_}
+use borrow.Author.Needs.{needs}
+use Rattle.rules.proofs.process.Process.course_s.Statement.{statement}
+use Rattle.rules.proofs.process.Process.course_s.Tie as tie
+use Rattle.rules.proofs.process.Process.course_s.Reads as reads
+use Rattle.rules.proofs.process.Process.course_s.Lts as lts
+use Rattle.rules.proofs.process.Next.cut_if.Reads as cut-if-reads
+use Rattle.rules.proofs.process.Process.idle_s.Reads as idle-s-reads
+use Rattle.rules.proofs.process.Process.idles.Reads as idles-reads
+use Rattle.rules.proofs.process.Process.on_s.Reads as on-s-reads
+
+idle-s-requires : tie.Need-idle-s-requires
+idle-s-requires c κs = search needs
+
+idles-requires : tie.Need-idles-requires
+idles-requires c κs = search needs
+
+returns : tie.Need-returns
+returns c = c .idles .ensures ∙ idle-yes _ _ _ _ (sym (c .before .before .idle-s .ensures) ∙ c .before .if1 .taken)
+
+on-s-requires : tie.Need-on-s-requires
+on-s-requires c κs = search needs
+
+cut-if-requires : tie.Need-cut-if-requires
+cut-if-requires c κs = search needs
+
+returns-2 : tie.Need-returns-2
+returns-2 c =
+    let a = c .before .before .before .before .args in
+    cc (idle-no (a .cut) (a .i) (a .self) (onS (a .n) (a .sender) (a .self)) (sym (c .before .before .before .idle-s .ensures) ∙ c .before .before .if1 .left))
+
+pub course-s-spec : {M : Type 1} → statement M
+course-s-spec =
+    tie.close
+    (tie.spec idle-s-requires idles-requires returns on-s-requires cut-if-requires returns-2)

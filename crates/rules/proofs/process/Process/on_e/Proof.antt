@@ -1,0 +1,25 @@
+-- `Process::on_e` meets its contract: it takes the stages of the definition, in their order. Assumes nothing.
+use borrow.Author.Needs.{needs}
+use Rattle.rules.specs.Events.{onE}
+use Rattle.rules.proofs.process.Process.on_e.Statement.{statement}
+use Rattle.rules.proofs.process.Process.on_e.Tie as tie
+
+jumps-requires : tie.Need-jumps-requires
+jumps-requires c κs = search needs
+
+relays-requires : tie.Need-relays-requires
+relays-requires c κs = search needs
+
+joins-requires : tie.Need-joins-requires
+joins-requires c κs = search needs
+
+decides-at-requires : tie.Need-decides-at-requires
+decides-at-requires c κs = search needs
+
+returns : tie.Need-returns
+unfolding onE
+returns c = cc
+
+pub on-e-spec : {M : Type 1} → statement M
+on-e-spec =
+    tie.close (tie.spec jumps-requires relays-requires joins-requires decides-at-requires returns)

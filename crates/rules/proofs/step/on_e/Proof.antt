@@ -1,0 +1,79 @@
+-- `on_e` meets its contract: the rows of the table in their order, then the course of the process. Assumes nothing.
+use Rattle.rules.proofs.CourseLaws.{delivery-refuses, entry-refuses, delivery-passes, an-E, course-E, admits, names}
+use Rattle.rules.proofs.SoundLaws.{sound-facts}
+use Rattle.rules.specs.Parts.{entryRows}
+use lib.ListN.{getD}
+use native.Mathlib.Omega.{arith}
+use Prim.Native.Nat.{ℕ}
+use mathlib.Core.Path.{_≡_, sym, ap, _∙_}
+use borrow.Author.Needs.{needs}
+use Rattle.rules.proofs.step.on_e.Statement.{statement}
+use Rattle.rules.proofs.step.on_e.Tie as tie
+use Rattle.rules.proofs.step.on_e.Reads as reads
+use Rattle.rules.proofs.step.on_e.Lts as lts
+use Rattle.rules.proofs.group.take_out.Reads as take-out-reads
+use Rattle.rules.proofs.process.Process.course_e.Reads as course-e-reads
+use Rattle.rules.proofs.step.delivery_refusal.Reads as delivery-refusal-reads
+use Rattle.rules.proofs.step.entry_refusal.Reads as entry-refusal-reads
+use Rattle.rules.proofs.store.Store.slot.Reads as slot-reads
+
+delivery-refusal-requires : tie.Need-delivery-refusal-requires
+delivery-refusal-requires c κs = sound-facts _ (c .before .pre .sound) .high
+
+returns : tie.Need-returns
+returns c = delivery-refuses _ _ _ _ _ _ _ (c .before .before .before .pre) (an-E _ _ _ _ _ _) (c .before .delivery-refusal .ensures) (c .if1 .taken)
+
+cast-sender : tie.Need-cast-sender
+cast-sender c = omega (arith, admits _ _ _ _ _ _ (c .before .before .before .pre) (sym (c .before .delivery-refusal .ensures) ∙ c .if1 .left))
+
+cast-slot : tie.Need-cast-slot
+cast-slot c = omega (arith, admits _ _ _ _ _ _ (c .before .before .before .pre) (sym (c .before .delivery-refusal .ensures) ∙ c .if1 .left))
+
+slot-requires : tie.Need-slot-requires
+slot-requires c κs = omega (arith, admits _ _ _ _ _ _ (c .before .before .before .pre) (sym (c .before .delivery-refusal .ensures) ∙ c .if1 .left))
+
+mul-entry : tie.Need-mul-entry
+mul-entry c = search needs
+
+shared-slice-read-entry : tie.Need-shared-slice-read-entry
+shared-slice-read-entry c = omega (arith, c .before .slot .ensures, c .before .before .before .before .before .pre .long, admits _ _ _ _ _ _ (c .before .before .before .before .before .pre) (sym (c .before .before .before .delivery-refusal .ensures) ∙ c .before .before .if1 .left))
+
+entry-refusal-requires : tie.Need-entry-refusal-requires
+entry-refusal-requires c κs = search needs
+
+returns-2 : tie.Need-returns-2
+returns-2 c = entry-refuses _ _ _ _ _ _ _ (c .before .before .before .before .before .before .before .pre) (an-E _ _ _ _ _ _) (sym (c .before .before .before .before .before .delivery-refusal .ensures) ∙ c .before .before .before .before .if1 .left) (c .before .entry-refusal .ensures ∙ ap (λ (k : ℕ). entryRows (c .before .before .before .before .before .before .before .args .n) (getD (c .before .before .before .before .before .before .before .args .store .now) k 0)) (c .before .before .before .slot .ensures)) (c .if2 .taken)
+
+cast-i : tie.Need-cast-i
+cast-i c = omega (arith, admits _ _ _ _ _ _ (c .before .before .before .before .before .before .before .pre) (sym (c .before .before .before .before .before .delivery-refusal .ensures) ∙ c .before .before .before .before .if1 .left))
+
+take-out-requires : tie.Need-take-out-requires
+take-out-requires c κs = omega (arith, admits _ _ _ _ _ _ (c .before .before .before .before .before .before .before .pre) (sym (c .before .before .before .before .before .delivery-refusal .ensures) ∙ c .before .before .before .before .if1 .left))
+
+cast-course-e : tie.Need-cast-course-e
+cast-course-e c = omega (arith, admits _ _ _ _ _ _ (c .before .before .before .before .before .before .before .before .pre) (sym (c .before .before .before .before .before .before .delivery-refusal .ensures) ∙ c .before .before .before .before .before .if1 .left))
+
+course-e-requires : tie.Need-course-e-requires
+course-e-requires c κs = omega (arith, names _ _ _ (c .before .before .before .before .before .before .before .before .pre) (sym (c .before .before .entry-refusal .ensures) ∙ c .before .if2 .left), admits _ _ _ _ _ _ (c .before .before .before .before .before .before .before .before .pre) (sym (c .before .before .before .before .before .before .delivery-refusal .ensures) ∙ c .before .before .before .before .before .if1 .left))
+
+returns-3 : tie.Need-returns-3
+returns-3 c = c .course-e .ensures ∙ course-E _ _ _ _ _ (c .before .take-out .ensures (c .before .before .before .before .before .before .before .before .before .args .n)) _ (ap (λ (k : ℕ). getD (c .before .before .before .before .before .before .before .before .before .args .store .now) k 0) (c .before .before .before .before .before .slot .ensures)) (delivery-passes _ _ _ _ _ _ _ (c .before .before .before .before .before .before .before .before .before .pre) (an-E _ _ _ _ _ _) (sym (c .before .before .before .before .before .before .before .delivery-refusal .ensures) ∙ c .before .before .before .before .before .before .if1 .left) (sym (c .before .before .before .entry-refusal .ensures ∙ ap (λ (k : ℕ). entryRows (c .before .before .before .before .before .before .before .before .before .args .n) (getD (c .before .before .before .before .before .before .before .before .before .args .store .now) k 0)) (c .before .before .before .before .before .slot .ensures)) ∙ c .before .before .if2 .left))
+
+pub on-e-spec : {M : Type 1} → statement M
+on-e-spec =
+    tie.close
+    (tie.spec
+    delivery-refusal-requires
+    returns
+    cast-sender
+    cast-slot
+    slot-requires
+    mul-entry
+    shared-slice-read-entry
+    entry-refusal-requires
+    returns-2
+    cast-i
+    take-out-requires
+    cast-course-e
+    course-e-requires
+    returns-3)

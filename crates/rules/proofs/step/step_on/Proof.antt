@@ -1,0 +1,38 @@
+-- `step_on` meets its contract: refusals 11 and 2 first, then the step. Assumes nothing.
+use Rattle.rules.proofs.CourseLaws.{short-outcome, damaged-outcome}
+use Rattle.rules.specs.Refusals.{short}
+use Rattle.rules.specs.Answers.{said}
+use borrow.Author.Tests.{lt-ltb, le-ltb}
+use mathlib.Core.Path.{sym, _∙_}
+use borrow.Author.Needs.{needs}
+use Rattle.rules.proofs.step.step_on.Statement.{statement}
+use Rattle.rules.proofs.step.step_on.Tie as tie
+use Rattle.rules.proofs.step.step_on.Reads as reads
+use Rattle.rules.proofs.step.step_on.Lts as lts
+use Rattle.rules.proofs.group.damaged.Reads as damaged-reads
+use Rattle.rules.proofs.step.step_sound.Reads as step-sound-reads
+
+returns : tie.Need-returns
+unfolding said short
+returns c = short-outcome _ _ _ (lt-ltb _ _ (c .if1 .taken))
+
+damaged-requires : tie.Need-damaged-requires
+damaged-requires c κs = search needs
+
+returns-2 : tie.Need-returns-2
+unfolding said short
+returns-2 c = damaged-outcome _ _ _ (le-ltb _ _ (c .before .before .before .before .before .before .if1 .left)) (sym (c .before .damaged .ensures) ∙ c .if2 .taken)
+
+step-sound-requires : tie.Need-step-sound-requires
+step-sound-requires c κs = record { long = c .before .before .before .before .before .before .before .before .before .before .before .if1 .left; sound = sym (c .before .before .before .before .before .before .damaged .ensures) ∙ c .before .before .before .before .before .if2 .left }
+
+same-length : tie.Need-same-length
+same-length c = search needs
+
+returns-3 : tie.Need-returns-3
+returns-3 c = c .before .before .step-sound .ensures
+
+pub step-on-spec : {M : Type 1} → statement M
+step-on-spec =
+    tie.close
+    (tie.spec returns damaged-requires returns-2 step-sound-requires same-length returns-3)

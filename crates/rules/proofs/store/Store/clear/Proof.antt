@@ -1,0 +1,61 @@
+-- `Store::clear` meets its contract: before each turn the entries below the place are cleared. Assumes nothing.
+use Rattle.rules.proofs.StoreLaws.{cleared-none, cleared-more}
+use Rattle.rules.specs.Store.{cleared}
+use Rattle.rules.specs.Limits.{storeLength}
+use lib.ListN.{length, set, length-set}
+use native.Mathlib.Omega.{arith}
+use Prim.Native.Nat.{ℕ, _≤_, _<_, _-_}
+use mathlib.Core.List.{List}
+use mathlib.Core.Path.{_≡_, refl, ap, _∙_}
+use Rattle.rules.proofs.store.Store.clear.Statement.{statement}
+use Rattle.rules.proofs.store.Store.clear.Tie as tie
+use Rattle.rules.proofs.store.Store.clear.Reads as reads
+use Rattle.rules.proofs.store.Store.clear.Lts as lts
+
+abbrev Inv-loop : tie.InvT-loop
+Inv-loop store₀ at₀ store at = (at ≤ storeLength) × (storeLength ≤ length store₀) × (length store ≡ length store₀) × (store ≡ cleared at store₀)
+
+abbrev μ-loop : tie.MeasureT-loop
+μ-loop store₀ at₀ store at = storeLength - at
+
+loop-holds : tie.Need-loop-holds Inv-loop μ-loop
+loop-holds c = (omega arith, c .pre, refl, cleared-none _)
+
+mul-store : tie.Need-mul-store Inv-loop μ-loop
+mul-store c = omega arith
+
+slice-write-store : tie.Need-slice-write-store Inv-loop μ-loop
+slice-write-store c = omega arith
+
+add-at : tie.Need-add-at Inv-loop μ-loop
+add-at c = omega arith
+
+loop-less : tie.Need-loop-less Inv-loop μ-loop
+loop-less c = omega arith
+
+loop-again : tie.Need-loop-again Inv-loop μ-loop
+loop-again c =
+    let l = c .before .loop .inv in
+    let room : c .before .loop .at < length (c .before .before .args .store .now) = omega arith in
+    (omega arith, c .before .before .pre, simp length-set (l .2), ap (λ (s : List ℕ). set s (c .before .loop .at) 0) (l .3) ∙ cleared-more _ _ room)
+
+same-length : tie.Need-same-length Inv-loop μ-loop
+same-length c = c .before .loop .inv .2
+
+returns : tie.Need-returns Inv-loop μ-loop
+returns c = c .before .loop .inv .3 ∙ ap (λ (n : ℕ). cleared n (c .before .before .args .store .now)) (omega arith)
+
+pub clear-spec : {M : Type 1} → statement M
+clear-spec =
+    tie.close
+    (tie.spec
+    Inv-loop
+    μ-loop
+    loop-holds
+    mul-store
+    slice-write-store
+    add-at
+    loop-less
+    loop-again
+    same-length
+    returns)

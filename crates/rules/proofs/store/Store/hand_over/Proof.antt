@@ -1,0 +1,180 @@
+-- `Store::hand_over` meets its contract: each kind of message is written at its place, with its entry. Assumes nothing.
+use Rattle.rules.specs.Store.{slot, kindE, messageRound, handOver, turned, unsentBit, placeOf, entryFor}
+use Rattle.rules.specs.Limits.{lastRound, storeLength}
+use Rattle.rules.specs.declared.process.Message.the-variants.{Nothing, E, S, F, Decision}
+use Rattle.rules.specs.declared.process.Message.{Message}
+use lib.ListN.{length, getD, set}
+use lib.Dec.{eqb}
+use native.Mathlib.Omega.{arith}
+use Prim.Native.Nat.{ℕ, _≤_, _<_}
+use mathlib.Core.List.{List}
+use mathlib.Core.Path.{_≡_, refl, sym, ap, _∙_}
+use borrow.Author.Needs.{needs}
+use Rattle.rules.proofs.store.Store.hand_over.Statement.{statement}
+use Rattle.rules.proofs.store.Store.hand_over.Tie as tie
+use Rattle.rules.proofs.store.Store.hand_over.Reads as reads
+use Rattle.rules.proofs.store.Store.hand_over.Lts as lts
+use Rattle.rules.proofs.store.Store.decision_slot.Reads as decision-slot-reads
+use Rattle.rules.proofs.store.Store.entry_of.Reads as entry-of-reads
+use Rattle.rules.proofs.store.Store.slot.Reads as slot-reads
+use Rattle.rules.proofs.store.Store.write.Reads as write-reads
+
+-- {helpers}
+-- a write at a message's place of its entry hands the message over
+module _ (i : ℕ) (l : List ℕ) where
+  wrote : (m : Message) {last : List ℕ} {sent at e : ℕ}
+      → handOver i m l ≡ set l (placeOf i m) (entryFor i m)
+      → turned i m l ≡ unsentBit (eqb (getD l (placeOf i m) 0) 0)
+      → at ≡ placeOf i m
+      → e ≡ entryFor i m
+      → (last ≡ set l at e) × (sent ≡ unsentBit (eqb (getD l at 0) 0))
+      → (last ≡ handOver i m l) × (sent ≡ turned i m l)
+  wrote m h t a b w = (w .0 ∙ rw (h, a, b), w .1 ∙ rw (t, a))
+-- {end}
+
+
+
+enum-told : tie.Need-enum-told
+enum-told c = search needs
+
+enum-known-message : tie.Need-enum-known-message
+enum-known-message c = search needs
+
+slot-requires : tie.Need-slot-requires
+slot-requires c κs = search needs
+
+entry-of-requires : tie.Need-entry-of-requires
+entry-of-requires c κs = search needs
+
+write-requires : tie.Need-write-requires
+unfolding messageRound
+write-requires c κs =
+    let m = c .before .before .before .before .message .given .1 in
+    omega (arith, ap messageRound m, c .before .slot .ensures, c .before .before .before .before .before .before .before .pre)
+
+enum-known-message-2 : tie.Need-enum-known-message-2
+enum-known-message-2 c = search needs
+
+slot-requires-2 : tie.Need-slot-requires-2
+slot-requires-2 c κs = search needs
+
+entry-of-requires-2 : tie.Need-entry-of-requires-2
+entry-of-requires-2 c κs = search needs
+
+write-requires-2 : tie.Need-write-requires-2
+unfolding messageRound
+write-requires-2 c κs =
+    let m = c .before .before .before .before .message2 .given .1 in
+    omega (arith, ap messageRound m, c .before .slot2 .ensures, c .before .before .before .before .before .before .before .pre)
+
+enum-known-message-3 : tie.Need-enum-known-message-3
+enum-known-message-3 c = search needs
+
+slot-requires-3 : tie.Need-slot-requires-3
+slot-requires-3 c κs = search needs
+
+entry-of-requires-3 : tie.Need-entry-of-requires-3
+entry-of-requires-3 c κs = search needs
+
+write-requires-3 : tie.Need-write-requires-3
+unfolding messageRound
+write-requires-3 c κs =
+    let m = c .before .before .before .before .message3 .given .1 in
+    omega (arith, ap messageRound m, c .before .slot3 .ensures, c .before .before .before .before .before .before .before .pre)
+
+enum-known-message-4 : tie.Need-enum-known-message-4
+enum-known-message-4 c = search needs
+
+decision-slot-requires : tie.Need-decision-slot-requires
+decision-slot-requires c κs = search needs
+
+entry-of-requires-4 : tie.Need-entry-of-requires-4
+entry-of-requires-4 c κs = search needs
+
+write-requires-4 : tie.Need-write-requires-4
+write-requires-4 c κs = search needs
+
+returns : tie.Need-returns
+unfolding handOver turned
+returns c =
+    let m = c .enum-told .given .1 in
+    (rw m, rw m)
+
+same-length : tie.Need-same-length
+same-length c = search needs
+
+returns-2 : tie.Need-returns-2
+unfolding handOver turned placeOf entryFor
+returns-2 c =
+    let a = c .before .before .before .before .before .before .before .before .before .before .args in
+    let m = c .before .before .before .before .before .before .before .message .given .1 in
+    let s = c .before .before .before .before .slot .ensures in
+    let e = c .before .before .before .entry-of .ensures in
+    wrote (a .i) (a .store .now) (a .message) (rw m) (rw m) (rw m s) (rw m e) (c .before .before .write .ensures)
+
+same-length-2 : tie.Need-same-length-2
+same-length-2 c = search needs
+
+returns-3 : tie.Need-returns-3
+unfolding handOver turned placeOf entryFor
+returns-3 c =
+    let a = c .before .before .before .before .before .before .before .before .before .before .args in
+    let m = c .before .before .before .before .before .before .before .message2 .given .1 in
+    let s = c .before .before .before .before .slot2 .ensures in
+    let e = c .before .before .before .entry-of2 .ensures in
+    wrote (a .i) (a .store .now) (a .message) (rw m) (rw m) (rw m s) (rw m e) (c .before .before .write2 .ensures)
+
+same-length-3 : tie.Need-same-length-3
+same-length-3 c = search needs
+
+returns-4 : tie.Need-returns-4
+unfolding handOver turned placeOf entryFor
+returns-4 c =
+    let a = c .before .before .before .before .before .before .before .before .before .before .args in
+    let m = c .before .before .before .before .before .before .before .message3 .given .1 in
+    let s = c .before .before .before .before .slot3 .ensures in
+    let e = c .before .before .before .entry-of3 .ensures in
+    wrote (a .i) (a .store .now) (a .message) (rw m) (rw m) (rw m s) (rw m e) (c .before .before .write3 .ensures)
+
+same-length-4 : tie.Need-same-length-4
+same-length-4 c = search needs
+
+returns-5 : tie.Need-returns-5
+unfolding handOver turned placeOf entryFor
+returns-5 c =
+    let a = c .before .before .before .before .before .before .before .before .before .before .args in
+    let m = c .before .before .before .before .before .before .before .message4 .given .1 in
+    let s = c .before .before .before .before .decision-slot .ensures in
+    let e = c .before .before .before .entry-of4 .ensures in
+    wrote (a .i) (a .store .now) (a .message) (rw m) (rw m) (rw m s) (rw m e) (c .before .before .write4 .ensures)
+
+pub hand-over-spec : {M : Type 1} → statement M
+hand-over-spec =
+    tie.close
+    (tie.spec
+    enum-told
+    enum-known-message
+    slot-requires
+    entry-of-requires
+    write-requires
+    enum-known-message-2
+    slot-requires-2
+    entry-of-requires-2
+    write-requires-2
+    enum-known-message-3
+    slot-requires-3
+    entry-of-requires-3
+    write-requires-3
+    enum-known-message-4
+    decision-slot-requires
+    entry-of-requires-4
+    write-requires-4
+    returns
+    same-length
+    returns-2
+    same-length-2
+    returns-3
+    same-length-3
+    returns-4
+    same-length-4
+    returns-5)

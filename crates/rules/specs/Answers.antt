@@ -1,0 +1,43 @@
+-- Document 01, "Steps" and "Refusals": what a step answers, and its whole outcome. Assumes nothing.
+use mathlib.Core.Bool.{Bool, true, false}
+use mathlib.Core.List.{List}
+use Prim.Native.Nat.{ℕ}
+use Rattle.rules.specs.declared.group.Group.{Group}
+use Rattle.rules.specs.declared.step.Answer.{Answer}
+use Rattle.rules.specs.declared.step.Answer.the-variants.{Idle, Applied, Refused}
+
+-- "Every step is applied, idle or refused": which of the three, the refusal's number, *sent* (the entries that turn from 0), and whether the process decided
+pub record Said : Type 0 where
+  pub applied : Bool
+  pub idle : Bool
+  pub refusal : ℕ
+  pub sent : ℕ
+  pub decided : Bool
+
+abbrev pub saysApplied : ℕ → Bool → Said
+saysApplied sent decided = record { applied = true; idle = false; refusal = 0; sent = sent; decided = decided }
+
+abbrev pub saysIdle : Said
+saysIdle = record { applied = false; idle = true; refusal = 0; sent = 0; decided = false }
+
+abbrev pub saysRefused : ℕ → Said
+saysRefused k = record { applied = false; idle = false; refusal = k; sent = 0; decided = false }
+
+-- what each case of the enum says
+unfoldable pub said : Answer → Said
+said Idle = saysIdle
+said (Applied sent decided) = saysApplied sent decided
+said (Refused k) = saysRefused k
+
+-- all that a start or a step yields: the group, the content of the store, and what is said
+pub record Outcome : Type 0 where
+  pub group : Group
+  pub store : List ℕ
+  pub says : Said
+
+abbrev pub outcome : Group → List ℕ → Said → Outcome
+outcome g l a = record { group = g; store = l; says = a }
+
+-- "A refused step leaves group and store as they were"
+abbrev pub refused : Group → List ℕ → ℕ → Outcome
+refused g l k = outcome g l (saysRefused k)

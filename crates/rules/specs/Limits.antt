@@ -1,0 +1,22 @@
+-- Document 01, "Numbers": the limits, the majority, the coordinator. Assumes nothing.
+use Prim.Native.Nat.{ℕ, _+_, _/_, _%_}
+
+-- "Processes 1 to n, n from 1 to 16."
+abbrev pub greatestSize : ℕ
+greatestSize = 16
+
+-- "Rounds 0 to 63."
+abbrev pub lastRound : ℕ
+lastRound = 63
+
+-- "Majority is floor(n/2) + 1"
+abbrev pub majority : ℕ → ℕ
+majority n = n / 2 + 1
+
+-- "The coordinator of round r is (r mod n) + 1."
+abbrev pub coordinator : ℕ → ℕ → ℕ
+coordinator r n = r % n + 1
+
+-- "The store is lent by the caller: 3,088 entries of 64 bits"
+abbrev pub storeLength : ℕ
+storeLength = 3088

@@ -1,0 +1,109 @@
+-- Document 01, "Records and the message store": the record of a process, and a group of them. Assumes nothing.
+-- "A process has: its first value; round; phase (1 or 2); estimate (a proposer and a value); suspicion mark; decision or none; up or down; and two tallies,
+-- estimates heard and suspicions heard." This is the struct `Process`: `decision` is one where `decided` is true, and none otherwise.
+use mathlib.Core.Path.{_≡_}
+use mathlib.Core.Bool.{Bool, true, false, _&&_}
+use mathlib.Core.List.{List}
+use Prim.Native.Nat.{ℕ, _+_, _-_}
+use lib.Dec.{leb}
+use lib.ListN.{length, getD, set, replicate}
+use Rattle.rules.specs.declared.group.Group.{Group}
+use Rattle.rules.specs.declared.process.Process.{Process}
+use Rattle.rules.specs.Limits.{greatestSize}
+
+-- "All but the tallies and up/down is the *stored record*."
+pub record Stored : Type 0 where
+  pub first : ℕ
+  pub round : ℕ
+  pub phase : ℕ
+  pub proposer : ℕ
+  pub value : ℕ
+  pub marked : Bool
+  pub decided : Bool
+  pub decision : ℕ
+
+unfoldable pub stored : Process → Stored
+stored p =
+    record {
+      first = p .first;
+      round = p .round;
+      phase = p .phase;
+      proposer = p .proposer;
+      value = p .value;
+      marked = p .marked;
+      decided = p .decided;
+      decision = p .decision;
+    }
+
+-- a group of size n whose records are kept in four lists by width: numbers of 32 bits, of 16, of 8, and bools. Process i stands at i - 1 of each column of 16
+abbrev pub groupOf : ℕ → List ℕ → List ℕ → List ℕ → List Bool → Group
+groupOf n words halves bytes flags = record { n = n; words = words; halves = halves; bytes = bytes; flags = flags }
+
+-- process i of g
+unfoldable pub processAt : Group → ℕ → Process
+processAt g i =
+    record {
+      first = getD (g .words) (i - 1) 0;
+      round = getD (g .bytes) (i - 1) 0;
+      phase = getD (g .bytes) (16 + (i - 1)) 0;
+      proposer = getD (g .bytes) (32 + (i - 1)) 0;
+      value = getD (g .words) (16 + (i - 1)) 0;
+      marked = getD (g .flags) (i - 1) false;
+      decided = getD (g .flags) (16 + (i - 1)) false;
+      decision = getD (g .words) (32 + (i - 1)) 0;
+      up = getD (g .flags) (32 + (i - 1)) false;
+      estimates = getD (g .halves) (i - 1) 0;
+      suspicions = getD (g .halves) (16 + (i - 1)) 0;
+    }
+
+-- a list with one entry of each of its two, or three, columns of 16 replaced at i
+abbrev pub put₂ : {A : Type 0} → List A → ℕ → A → A → List A
+put₂ l i a b = set (set l (i - 1) a) (16 + (i - 1)) b
+
+abbrev pub put₃ : {A : Type 0} → List A → ℕ → A → A → A → List A
+put₃ l i a b c = set (put₂ l i a b) (32 + (i - 1)) c
+
+-- g with p as process i
+unfoldable pub withProcess : Group → ℕ → Process → Group
+withProcess g i p =
+    groupOf (g .n)
+    (put₃ (g .words) i (p .first) (p .value) (p .decision))
+    (put₂ (g .halves) i (p .estimates) (p .suspicions))
+    (put₃ (g .bytes) i (p .round) (p .phase) (p .proposer))
+    (put₃ (g .flags) i (p .marked) (p .decided) (p .up))
+
+-- every list has its whole columns: so has every group that the code holds
+pub record Sized (g : Group) : Type 0 where
+  pub words : length (g .words) ≡ 48
+  pub halves : length (g .halves) ≡ 32
+  pub bytes : length (g .bytes) ≡ 48
+  pub flags : length (g .flags) ≡ 48
+
+-- "Records above n, and all records of a group of size 0, have every number 0, no mark, no decision, empty tallies and are down"
+unfoldable pub blank : Process
+blank =
+    record {
+      first = 0;
+      round = 0;
+      phase = 0;
+      proposer = 0;
+      value = 0;
+      marked = false;
+      decided = false;
+      decision = 0;
+      up = false;
+      estimates = 0;
+      suspicions = 0;
+    }
+
+unfoldable pub recordIf : Bool → Group → ℕ → Process
+recordIf true g i = processAt g i
+recordIf false g i = blank
+
+-- the record of process i for everybody outside: a blank one where i is not 1 to 16
+unfoldable pub recordOf : Group → ℕ → Process
+recordOf g i = recordIf (leb 1 i && leb i greatestSize) g i
+
+-- a group of size n with every record blank
+unfoldable pub blankGroup : ℕ → Group
+blankGroup n = groupOf n (replicate 48 0) (replicate 32 0) (replicate 48 0) (replicate 48 false)

@@ -1,0 +1,73 @@
+-- A run: "any finite list of steps" from a start, with what was handed over. Assumes nothing.
+use mathlib.Core.Bool.{Bool, true, false}
+use mathlib.Core.List.{List, [], _∷_, _++_}
+use Prim.Native.Nat.{ℕ}
+use lib.ListN.{getD}
+use Rattle.rules.specs.declared.group.Group.{Group}
+use Rattle.rules.specs.declared.process.Message.{Message}
+use Rattle.rules.specs.declared.process.Message.the-variants.{Nothing, E, S, F, Decision}
+use Rattle.rules.specs.declared.process.Next.{Next}
+use Rattle.rules.specs.declared.step.Step.{Step}
+use Rattle.rules.specs.declared.step.Course.{Course}
+use Rattle.rules.specs.declared.step.Course.the-variants.{Idles, Refuses, Takes}
+use Rattle.rules.specs.Answers.{Outcome, Said}
+use Rattle.rules.specs.Start.{started, firstMessage}
+use Rattle.rules.specs.Step.{course, stepped}
+
+-- the group and the store between two steps
+pub record State : Type 0 where
+  pub group : Group
+  pub store : List ℕ
+
+abbrev pub stateOf : Outcome → State
+stateOf o = record { group = o .group; store = o .store }
+
+-- after a start over the store l, after one step, and after a list of steps: "a run goes on after a refused step"
+unfoldable pub startState : List ℕ → List ℕ → State
+startState vs l = stateOf (started vs l)
+
+unfoldable pub next : State → Step → State
+next a s = stateOf (stepped (a .group) (a .store) s)
+
+unfoldable pub after : State → List Step → State
+after a [] = a
+after a (s ∷ ss) = after (next a s) ss
+
+-- what each step of the list answers
+unfoldable pub answers : State → List Step → List Said
+answers a [] = []
+answers a (s ∷ ss) = stepped (a .group) (a .store) s .says ∷ answers (next a s) ss
+
+-- ---- what was handed over: a message and the process that handed it over
+
+pub record Handed : Type 0 where
+  pub sender : ℕ
+  pub message : Message
+
+abbrev pub handed : ℕ → Message → Handed
+handed i m = record { sender = i; message = m }
+
+-- the messages of an event: those of its two places that hold one
+unfoldable pub one : ℕ → Message → List Handed
+one i Nothing = []
+one i (E r q v) = handed i (E r q v) ∷ []
+one i (S r) = handed i (S r) ∷ []
+one i (F r q v) = handed i (F r q v) ∷ []
+one i (Decision v) = handed i (Decision v) ∷ []
+
+unfoldable pub handedByCourse : Course → List Handed
+handedByCourse Idles = []
+handedByCourse (Refuses k) = []
+handedByCourse (Takes i x) = one i (x .first) ++ one i (x .second)
+
+-- by one step, and by a list of steps, in their order
+unfoldable pub handedBy : State → Step → List Handed
+handedBy a s = handedByCourse (course (a .group) (a .store) s)
+
+unfoldable pub handedIn : State → List Step → List Handed
+handedIn a [] = []
+handedIn a (s ∷ ss) = handedBy a s ++ handedIn (next a s) ss
+
+-- by the start and then by the list of steps
+unfoldable pub handedFrom : List ℕ → List ℕ → List Step → List Handed
+handedFrom vs l ss = handed 1 (firstMessage (getD vs 0 0)) ∷ handedIn (startState vs l) ss

@@ -1,0 +1,62 @@
+-- Document 01, "Records and the message store": start. Assumes nothing.
+use mathlib.Core.Path.{_≡_}
+use mathlib.Core.Bool.{false, true}
+use mathlib.Core.List.{List}
+use Prim.Native.Nat.{ℕ, zero, suc}
+use lib.ListN.{length, getD}
+use Rattle.rules.specs.declared.group.Group.{Group}
+use Rattle.rules.specs.declared.process.Process.{Process}
+use Rattle.rules.specs.declared.process.Message.{Message}
+use Rattle.rules.specs.declared.process.Message.the-variants.{E}
+use Rattle.rules.specs.declared.step.Taken.{Taken}
+use Rattle.rules.specs.Limits.{storeLength}
+use Rattle.rules.specs.Records.{withProcess, blankGroup}
+use Rattle.rules.specs.Store.{cleared, handOver}
+use Rattle.rules.specs.Answers.{Outcome, outcome, refused, said, saysApplied}
+use Rattle.rules.specs.Refusals.{startRefusal}
+
+-- "process i has first value v_i, round 0, phase 1, estimate (i, v_i), no mark, no decision, up, empty tallies"
+unfoldable pub fresh : ℕ → ℕ → Process
+fresh i v =
+    record {
+      first = v;
+      round = 0;
+      phase = 1;
+      proposer = i;
+      value = v;
+      marked = false;
+      decided = false;
+      decision = 0;
+      up = true;
+      estimates = 0;
+      suspicions = 0;
+    }
+
+-- the first k processes of the values vs started, every other record blank
+unfoldable pub startedTo : List ℕ → ℕ → Group
+startedTo vs zero = blankGroup (length vs)
+startedTo vs (suc k) = withProcess (startedTo vs k) (suc k) (fresh (suc k) (getD vs k 0))
+
+-- "process 1's E of round 0", with its first value v
+abbrev pub firstMessage : ℕ → Message
+firstMessage v = E 0 1 v
+
+-- "The store is cleared and process 1's E of round 0 is handed over."
+unfoldable pub opened : ℕ → List ℕ → List ℕ
+opened v l = handOver 1 (firstMessage v) (cleared storeLength l)
+
+-- not refused: applied, and that one entry turns from 0
+unfoldable pub begun : List ℕ → List ℕ → Outcome
+begun vs l = outcome (startedTo vs (length vs)) (opened (getD vs 0 0) l) (saysApplied 1 false)
+
+-- refused: "a group of size 0"
+unfoldable pub unlessRefusedStart : ℕ → List ℕ → List ℕ → Outcome
+unlessRefusedStart zero vs l = begun vs l
+unlessRefusedStart (suc k) vs l = refused (blankGroup 0) l (suc k)
+
+unfoldable pub started : List ℕ → List ℕ → Outcome
+started vs l = unlessRefusedStart (startRefusal vs l) vs l
+
+-- the contract of start: what it returns and what the store then holds are just what is started
+abbrev pub Starts : List ℕ → List ℕ → Taken → List ℕ → Type 0
+Starts vs l r after = outcome (r .group) after (said (r .answer)) ≡ started vs l

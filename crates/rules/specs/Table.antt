@@ -1,0 +1,288 @@
+-- Document 01, "Runs to hold it against": the runs marked (P), as one table. Its statement is `holdsAll table ≡ true`, in proofs/Table.antt. Assumes nothing.
+-- "Each run begins at a fresh start." Where the document names no values, they are 7, 9, 5 as in its example, and 0 to 15 for n = 16.
+use mathlib.Core.Bool.{Bool, true, false, _&&_, Bool·beq}
+use mathlib.Core.List.{List, [], _∷_}
+use Prim.Native.Nat.{ℕ}
+use lib.Dec.{eqb}
+use lib.ListN.{getD, replicate}
+use Rattle.rules.specs.declared.group.Group.{Group}
+use Rattle.rules.specs.declared.process.Process.{Process}
+use Rattle.rules.specs.declared.step.Step.{Step}
+use Rattle.rules.specs.declared.step.Step.the-variants.{DeliverE, DeliverS, DeliverF, DeliverDecision, Suspect, Crash, Recover}
+use Rattle.rules.specs.Limits.{storeLength}
+use Rattle.rules.specs.Records.{processAt}
+use Rattle.rules.specs.Answers.{Said, saysApplied, saysIdle, saysRefused}
+use Rattle.rules.specs.Step.{stepped}
+use Rattle.rules.specs.Run.{State, stateOf, startState}
+
+-- ---- a run of the table
+
+-- what is seen of a process: its line of the report
+pub record Seen : Type 0 where
+  pub process : ℕ
+  pub up : Bool
+  pub round : ℕ
+  pub phase : ℕ
+  pub proposer : ℕ
+  pub value : ℕ
+  pub decided : Bool
+  pub decision : ℕ
+
+-- process i in round r and phase f, with the estimate (q, v): up or down with no decision, or up with the decision d
+abbrev pub upNow : ℕ → ℕ → ℕ → ℕ → ℕ → Seen
+upNow i r f q v =
+    record { process = i; up = true; round = r; phase = f; proposer = q; value = v; decided = false; decision = 0 }
+
+abbrev pub downNow : ℕ → ℕ → ℕ → ℕ → ℕ → Seen
+downNow i r f q v =
+    record { process = i; up = false; round = r; phase = f; proposer = q; value = v; decided = false; decision = 0 }
+
+abbrev pub decidedNow : ℕ → ℕ → ℕ → ℕ → ℕ → ℕ → Seen
+decidedNow i r f q v d =
+    record { process = i; up = true; round = r; phase = f; proposer = q; value = v; decided = true; decision = d }
+
+-- a step, what it must say, and what it must leave a process: the one that takes it, or process 1 where there is none
+pub record Line : Type 0 where
+  pub step : Step
+  pub says : Said
+  pub leaves : Seen
+
+abbrev pub line : Step → Said → Seen → Line
+line s a x = record { step = s; says = a; leaves = x }
+
+-- an entry that must stand in the store
+pub record Entry : Type 0 where
+  pub place : ℕ
+  pub entry : ℕ
+
+abbrev pub entryAt : ℕ → ℕ → Entry
+entryAt k e = record { place = k; entry = e }
+
+-- a run: its values and its lines; then processes and entries to look at when it has ended
+pub record Run : Type 0 where
+  pub values : List ℕ
+  pub lines : List Line
+  pub processes : List Seen
+  pub entries : List Entry
+
+-- ---- that it holds
+
+-- the same is said
+unfoldable pub sameSaid : Said → Said → Bool
+sameSaid a b =
+    Bool·beq (a .applied) (b .applied)
+    && (Bool·beq (a .idle) (b .idle)
+    && (eqb (a .refusal) (b .refusal) && (eqb (a .sent) (b .sent) && Bool·beq (a .decided) (b .decided))))
+
+-- the record p is as seen
+unfoldable pub looks : Process → Seen → Bool
+looks p x =
+    Bool·beq (p .up) (x .up)
+    && (eqb (p .round) (x .round)
+    && (eqb (p .phase) (x .phase)
+    && (eqb (p .proposer) (x .proposer)
+    && (eqb (p .value) (x .value)
+    && (Bool·beq (p .decided) (x .decided) && eqb (p .decision) (x .decision))))))
+
+unfoldable pub looksIn : Group → Seen → Bool
+looksIn g x = looks (processAt g (x .process)) x
+
+unfoldable pub allLook : Group → List Seen → Bool
+allLook g [] = true
+allLook g (x ∷ xs) = looksIn g x && allLook g xs
+
+unfoldable pub allStand : List ℕ → List Entry → Bool
+allStand l [] = true
+allStand l (e ∷ es) = eqb (getD l (e .place) 0) (e .entry) && allStand l es
+
+-- from a on each line says and leaves what it must, and the run ends as it must
+unfoldable pub goesOn : State → List Line → List Seen → List Entry → Bool
+goesOn a [] xs es = allLook (a .group) xs && allStand (a .store) es
+goesOn a (x ∷ rest) xs es =
+    let o = stepped (a .group) (a .store) (x .step) in
+    sameSaid (o .says) (x .says) && (looksIn (o .group) (x .leaves) && goesOn (stateOf o) rest xs es)
+
+unfoldable pub holdsOne : Run → Bool
+holdsOne r = goesOn (startState (r .values) (replicate storeLength 0)) (r .lines) (r .processes) (r .entries)
+
+unfoldable pub holdsAll : List Run → Bool
+holdsAll [] = true
+holdsAll (r ∷ rs) = holdsOne r && holdsAll rs
+
+-- ---- the table
+
+-- "The run above; its third measured step is refusal 6." Its first line is the WARMUP section, with sent 0 and decided 0;
+-- the four others are the MEASURED section: applied 3, refused 1, sent 3, decided 2. It ends with the three process lines of the report.
+unfoldable pub runAbove : Run
+runAbove =
+    record {
+      values = 7 ∷ 9 ∷ 5 ∷ [];
+      lines =
+          line (DeliverE 1 1 0 false) (saysApplied 0 false) (upNow 1 0 1 1 7)
+          ∷ line (DeliverE 2 1 0 false) (saysApplied 1 false) (upNow 2 0 1 1 7)
+          ∷ line (DeliverE 2 2 0 false) (saysApplied 1 true) (decidedNow 2 0 1 1 7 7)
+          ∷ line (DeliverE 3 2 1 false) (saysRefused 6) (upNow 3 0 1 3 5)
+          ∷ line (DeliverDecision 3 2 false) (saysApplied 1 true) (decidedNow 3 0 1 3 5 7)
+          ∷ [];
+      processes = upNow 1 0 1 1 7 ∷ decidedNow 2 0 1 1 7 7 ∷ decidedNow 3 0 1 3 5 7 ∷ [];
+      entries = [];
+    }
+
+-- "n = 1, value 0: `E 1 1 0` decides 0."
+unfoldable pub oneDecides : Run
+oneDecides =
+    record {
+      values = 0 ∷ [];
+      lines = line (DeliverE 1 1 0 false) (saysApplied 1 true) (decidedNow 1 0 1 1 0 0) ∷ [];
+      processes = [];
+      entries = [];
+    }
+
+-- "n = 1: `Q 1`, `S 1 1 0`, `F 1 1 0` enters round 1 and hands over E again."
+-- The E of round 1 stands at (1×16 + 1−1)×3 + 0 = 48, and is 1 × 2^32 + 7.
+unfoldable pub oneEntersRound1 : Run
+oneEntersRound1 =
+    record {
+      values = 7 ∷ [];
+      lines =
+          line (Suspect 1 false) (saysApplied 1 false) (upNow 1 0 1 1 7)
+          ∷ line (DeliverS 1 1 0 false) (saysApplied 1 false) (upNow 1 0 2 1 7)
+          ∷ line (DeliverF 1 1 0 false) (saysApplied 1 false) (upNow 1 1 1 1 7)
+          ∷ [];
+      processes = [];
+      entries = entryAt 48 4_294_967_303 ∷ [];
+    }
+
+-- "n = 2: `E 2 1 0` then `E 2 1 0`: the second is idle, no decision."
+unfoldable pub repeatIsIdle : Run
+repeatIsIdle =
+    record {
+      values = 7 ∷ 9 ∷ [];
+      lines =
+          line (DeliverE 2 1 0 false) (saysApplied 1 false) (upNow 2 0 1 1 7)
+          ∷ line (DeliverE 2 1 0 false) saysIdle (upNow 2 0 1 1 7)
+          ∷ [];
+      processes = [];
+      entries = [];
+    }
+
+-- "n = 3, each from a start: `Q 2` twice: second is 7."
+unfoldable pub suspectTwice : Run
+suspectTwice =
+    record {
+      values = 7 ∷ 9 ∷ 5 ∷ [];
+      lines =
+          line (Suspect 2 false) (saysApplied 1 false) (upNow 2 0 1 2 9)
+          ∷ line (Suspect 2 false) (saysRefused 7) (upNow 2 0 1 2 9)
+          ∷ [];
+      processes = [];
+      entries = [];
+    }
+
+-- "`C 2` twice: second is 5."
+unfoldable pub crashTwice : Run
+crashTwice =
+    record {
+      values = 7 ∷ 9 ∷ 5 ∷ [];
+      lines =
+          line (Crash 2) (saysApplied 0 false) (downNow 2 0 1 2 9) ∷ line (Crash 2) (saysRefused 5) (downNow 2 0 1 2 9) ∷ [];
+      processes = [];
+      entries = [];
+    }
+
+-- "`R 2` while up: 7."
+unfoldable pub recoverWhileUp : Run
+recoverWhileUp =
+    record {
+      values = 7 ∷ 9 ∷ 5 ∷ [];
+      lines = line (Recover 2) (saysRefused 7) (upNow 2 0 1 2 9) ∷ [];
+      processes = [];
+      entries = [];
+    }
+
+-- a run of n = 16 whose one step is refused by k
+unfoldable pub refusedOfSixteen : Step → ℕ → Run
+refusedOfSixteen s k =
+    record {
+      values = 0 ∷ 1 ∷ 2 ∷ 3 ∷ 4 ∷ 5 ∷ 6 ∷ 7 ∷ 8 ∷ 9 ∷ 10 ∷ 11 ∷ 12 ∷ 13 ∷ 14 ∷ 15 ∷ [];
+      lines = line s (saysRefused k) (upNow 1 0 1 1 0) ∷ [];
+      processes = [];
+      entries = [];
+    }
+
+-- "`E 17 1 0` with n = 16: 3."
+unfoldable pub seventeenth : Run
+seventeenth = refusedOfSixteen (DeliverE 17 1 0 false) 3
+
+-- "`E 1 1 64`: 4."
+unfoldable pub round64 : Run
+round64 = refusedOfSixteen (DeliverE 1 1 64 false) 4
+
+-- "`E 1 1 63` at start: 6."
+unfoldable pub round63 : Run
+round63 = refusedOfSixteen (DeliverE 1 1 63 false) 6
+
+-- "Five processes, values 7 9 5 4 3: `E 1 1 0`, `E 3 1 0`, `E 4 1 0`, `E 1 3 0`, `E 1 4 0` (1 decides 7); `Q 2`, `Q 3`, `Q 5`;
+-- `S 2 2 0`, `S 2 3 0`, `S 2 5 0` (2 in phase 2); `F 5 2 0`; `S 5 2 0`, `S 5 3 0`, `S 5 5 0` (idle);
+-- `F 2 2 0`, `F 2 5 0`, `F 2 5 0` (last idle). Process 2 stays in round 0."
+unfoldable pub fiveProcesses : Run
+fiveProcesses =
+    record {
+      values = 7 ∷ 9 ∷ 5 ∷ 4 ∷ 3 ∷ [];
+      lines =
+          line (DeliverE 1 1 0 false) (saysApplied 0 false) (upNow 1 0 1 1 7)
+          ∷ line (DeliverE 3 1 0 false) (saysApplied 1 false) (upNow 3 0 1 1 7)
+          ∷ line (DeliverE 4 1 0 false) (saysApplied 1 false) (upNow 4 0 1 1 7)
+          ∷ line (DeliverE 1 3 0 false) (saysApplied 0 false) (upNow 1 0 1 1 7)
+          ∷ line (DeliverE 1 4 0 false) (saysApplied 1 true) (decidedNow 1 0 1 1 7 7)
+          ∷ line (Suspect 2 false) (saysApplied 1 false) (upNow 2 0 1 2 9)
+          ∷ line (Suspect 3 false) (saysApplied 1 false) (upNow 3 0 1 1 7)
+          ∷ line (Suspect 5 false) (saysApplied 1 false) (upNow 5 0 1 5 3)
+          ∷ line (DeliverS 2 2 0 false) (saysApplied 0 false) (upNow 2 0 1 2 9)
+          ∷ line (DeliverS 2 3 0 false) (saysApplied 0 false) (upNow 2 0 1 2 9)
+          ∷ line (DeliverS 2 5 0 false) (saysApplied 1 false) (upNow 2 0 2 2 9)
+          ∷ line (DeliverF 5 2 0 false) (saysApplied 1 false) (upNow 5 0 2 5 3)
+          ∷ line (DeliverS 5 2 0 false) saysIdle (upNow 5 0 2 5 3)
+          ∷ line (DeliverS 5 3 0 false) saysIdle (upNow 5 0 2 5 3)
+          ∷ line (DeliverS 5 5 0 false) saysIdle (upNow 5 0 2 5 3)
+          ∷ line (DeliverF 2 2 0 false) (saysApplied 0 false) (upNow 2 0 2 2 9)
+          ∷ line (DeliverF 2 5 0 false) (saysApplied 0 false) (upNow 2 0 2 2 9)
+          ∷ line (DeliverF 2 5 0 false) saysIdle (upNow 2 0 2 2 9)
+          ∷ [];
+      processes =
+          decidedNow 1 0 1 1 7 7 ∷ upNow 2 0 2 2 9 ∷ upNow 3 0 1 1 7 ∷ upNow 4 0 1 1 7 ∷ upNow 5 0 2 5 3 ∷ [];
+      entries = [];
+    }
+
+-- "n = 3: `E 2 1 0`, `C 2`, `R 2`, `E 2 1 0`: relayed again, same entry; *sent* is 0 for that last step."
+-- The E of process 2 stands at (0×16 + 2−1)×3 + 0 = 3, and is 1 × 2^32 + 7.
+unfoldable pub relayedAgain : Run
+relayedAgain =
+    record {
+      values = 7 ∷ 9 ∷ 5 ∷ [];
+      lines =
+          line (DeliverE 2 1 0 false) (saysApplied 1 false) (upNow 2 0 1 1 7)
+          ∷ line (Crash 2) (saysApplied 0 false) (downNow 2 0 1 1 7)
+          ∷ line (Recover 2) (saysApplied 0 false) (upNow 2 0 1 1 7)
+          ∷ line (DeliverE 2 1 0 false) (saysApplied 0 false) (upNow 2 0 1 1 7)
+          ∷ [];
+      processes = [];
+      entries = entryAt 3 4_294_967_303 ∷ [];
+    }
+
+-- "(P) marks those proved together as one table with a single statement."
+unfoldable pub table : List Run
+table =
+    runAbove
+    ∷ oneDecides
+    ∷ oneEntersRound1
+    ∷ repeatIsIdle
+    ∷ suspectTwice
+    ∷ crashTwice
+    ∷ recoverWhileUp
+    ∷ seventeenth
+    ∷ round64
+    ∷ round63
+    ∷ fiveProcesses
+    ∷ relayedAgain
+    ∷ []

@@ -1,0 +1,250 @@
+// A group of processes as a value, and the functions for everybody: start, step, and a look at one process.
+// Its records are kept in four arrays by width. `take_out` and `put_back` alone see the arrays' layout; they work on lent arrays, and so does a step.
+ghost use mathlib.Core.Path.{_≡_};
+ghost use mathlib.Core.Bool.{_||_};
+ghost use Prim.Native.Nat.{ℕ, _≤_};
+ghost use lib.Dec.{eqb};
+ghost use lib.ListN.{length};
+ghost use Rattle.rules.specs.Limits as limits;
+ghost use Rattle.rules.specs.Records as records;
+ghost use Rattle.rules.specs.Refusals as refusals;
+ghost use Rattle.rules.specs.Start as starts;
+ghost use Rattle.rules.specs.Step as steps;
+use crate::process::Message;
+use crate::process::Process;
+use crate::step;
+use crate::step::Answer;
+use crate::step::Step;
+use crate::step::Taken;
+use crate::store::Store;
+use crate::tally;
+
+// n processes; the record of process i stands at i - 1 of each column of 16. In `words` the columns are first values, estimates' values and decisions;
+// in `halves` estimates heard and suspicions heard; in `bytes` rounds, phases and estimates' proposers; in `flags` marks, whether decided, and whether up.
+pub struct Group {
+    pub n: u8,
+    pub words: [u32; 3 * Group::GREATEST],
+    pub halves: [u16; 2 * Group::GREATEST],
+    pub bytes: [u8; 3 * Group::GREATEST],
+    pub flags: [bool; 3 * Group::GREATEST],
+}
+
+// The record of process i.
+pub(crate) fn take_out(words: &[u32; 48], halves: &[u16; 32], bytes: &[u8; 48], flags: &[bool; 48], i: u8) -> Process
+    requires { ⌜ (1 ≤ i) × (i ≤ 16) ⌝ }
+    ensures { λ r. ⌜ ((n : ℕ) → r ≡ records.processAt (records.groupOf n (now (words .entry)) (now (halves .entry)) (now (bytes .entry)) (now (flags .entry))) i) ⌝ }
+{
+    let at = (i - 1) as usize;
+    Process {
+        first: words[at],
+        round: bytes[at],
+        phase: bytes[16 + at],
+        proposer: bytes[32 + at],
+        value: words[16 + at],
+        marked: flags[at],
+        decided: flags[16 + at],
+        decision: words[32 + at],
+        up: flags[32 + at],
+        estimates: halves[at],
+        suspicions: halves[16 + at],
+    }
+}
+
+// Puts p back as the record of process i.
+pub(crate) fn put_back(words: &mut [u32; 48], halves: &mut [u16; 32], bytes: &mut [u8; 48], flags: &mut [bool; 48], i: u8, p: Process)
+    requires { ⌜ (1 ≤ i) × (i ≤ 16) ⌝ }
+    ensures { λ r. ⌜ ((n : ℕ) → records.groupOf n (now (words .exit)) (now (halves .exit)) (now (bytes .exit)) (now (flags .exit)) ≡ records.withProcess (records.groupOf n (now (words .entry)) (now (halves .entry)) (now (bytes .entry)) (now (flags .entry))) i p) ⌝ }
+{
+    let at = (i - 1) as usize;
+    words[at] = p.first;
+    words[16 + at] = p.value;
+    words[32 + at] = p.decision;
+    halves[at] = p.estimates;
+    halves[16 + at] = p.suspicions;
+    bytes[at] = p.round;
+    bytes[16 + at] = p.phase;
+    bytes[32 + at] = p.proposer;
+    flags[at] = p.marked;
+    flags[16 + at] = p.decided;
+    flags[32 + at] = p.up;
+}
+
+// Whether m is one of 1..n.
+pub(crate) fn among(n: u8, m: u32) -> bool
+    ensures { λ r. ⌜ r ≡ refusals.among n m ⌝ }
+{
+    1 <= m && m <= n as u32
+}
+
+// Whether a phase is 1 or 2.
+pub(crate) fn is_phase(phase: u8) -> bool
+    ensures { λ r. ⌜ r ≡ (eqb phase 1 || eqb phase 2) ⌝ }
+{
+    phase == 1 || phase == 2
+}
+
+// Whether the record of a process of 1..n has no damage.
+pub(crate) fn whole(n: u8, p: Process) -> bool
+    requires { ⌜ n ≤ 16 ⌝ }
+    ensures { λ r. ⌜ r ≡ refusals.whole n p ⌝ }
+{
+    if Process::LAST_ROUND < p.round {
+        return false;
+    }
+    if !is_phase(p.phase) {
+        return false;
+    }
+    if !among(n, p.proposer as u32) {
+        return false;
+    }
+    if !tally::within(p.estimates, n) {
+        return false;
+    }
+    tally::within(p.suspicions, n)
+}
+
+// Whether a group is damaged: its size is not 1 to 16, or a record of its processes has damage.
+pub(crate) fn damaged(n: u8, words: &[u32; 48], halves: &[u16; 32], bytes: &[u8; 48], flags: &[bool; 48]) -> bool
+    ensures { λ r. ⌜ r ≡ refusals.damaged (records.groupOf n (now (words .entry)) (now (halves .entry)) (now (bytes .entry)) (now (flags .entry))) ⌝ }
+{
+    if n == 0 {
+        return true;
+    }
+    if Group::GREATEST < n as usize {
+        return true;
+    }
+    let mut k: u8 = 0;
+    while k < n {
+        let i = k + 1;
+        if !whole(n, take_out(words, halves, bytes, flags, i)) {
+            return true;
+        }
+        k = i;
+    }
+    false
+}
+
+// Starts the first processes of a group with the values, one record for each.
+pub(crate) fn fill(values: &[u32], words: &mut [u32; 48], halves: &mut [u16; 32], bytes: &mut [u8; 48], flags: &mut [bool; 48])
+    requires { ⌜ (length (now values) ≤ 16) × (records.groupOf (length (now values)) (now words) (now halves) (now bytes) (now flags) ≡ records.blankGroup (length (now values))) ⌝ }
+    ensures { λ r. ⌜ records.groupOf (length (now (values .entry))) (now (words .exit)) (now (halves .exit)) (now (bytes .exit)) (now (flags .exit)) ≡ starts.startedTo (now (values .entry)) (length (now (values .entry))) ⌝ }
+{
+    let mut k: usize = 0;
+    while k < values.len() {
+        let i = (k + 1) as u8;
+        put_back(words, halves, bytes, flags, i, Process::fresh(i, values[k]));
+        k += 1;
+    }
+}
+
+impl Group {
+    // The most processes that a group has.
+    pub const GREATEST: usize = 16;
+
+    pub fn greatest() -> usize
+        ensures { λ r. ⌜ r ≡ limits.greatestSize ⌝ }
+    {
+        Group::GREATEST
+    }
+
+    // A group of size 0.
+    pub fn none() -> Group
+        ensures { λ r. ⌜ r ≡ records.blankGroup 0 ⌝ }
+    {
+        Group {
+            n: 0,
+            words: [0; 48],
+            halves: [0; 32],
+            bytes: [0; 48],
+            flags: [false; 48],
+        }
+    }
+
+    // The record of process i, and a blank one where i is not 1 to 16.
+    pub fn process(self, i: u32) -> Process
+        ensures { λ r. ⌜ r ≡ records.recordOf self i ⌝ }
+    {
+        if !among(16, i) {
+            return Process::blank();
+        }
+        let words = self.words;
+        let halves = self.halves;
+        let bytes = self.bytes;
+        let flags = self.flags;
+        take_out(&words, &halves, &bytes, &flags, i as u8)
+    }
+
+    // A group of one process for each value, with process 1's E of round 0 in a store that is cleared before. Refused: a group of size 0, and the store as it was.
+    pub fn start(values: &[u32], store: &mut [u64]) -> Taken
+        ensures { λ r. ⌜ starts.Starts (now (values .entry)) (now (store .entry)) r (now (store .exit)) ⌝ }
+    {
+        if store.len() < Store::LENGTH {
+            return Taken {
+                group: Group::none(),
+                answer: Answer::Refused(11),
+            };
+        }
+        let n = values.len();
+        if n == 0 {
+            return Taken {
+                group: Group::none(),
+                answer: Answer::Refused(1),
+            };
+        }
+        if Group::GREATEST < n {
+            return Taken {
+                group: Group::none(),
+                answer: Answer::Refused(1),
+            };
+        }
+        let mut words = [0u32; 48];
+        let mut halves = [0u16; 32];
+        let mut bytes = [0u8; 48];
+        let mut flags = [false; 48];
+        fill(values, &mut words, &mut halves, &mut bytes, &mut flags);
+        begin(values[0], store);
+        let group = Group {
+            n: n as u8,
+            words: words,
+            halves: halves,
+            bytes: bytes,
+            flags: flags,
+        };
+        Taken {
+            group: group,
+            answer: Answer::Applied { sent: 1, decided: false },
+        }
+    }
+
+    // One step of the group over its store.
+    pub fn step(self, store: &mut [u64], step: Step) -> Taken
+        ensures { λ r. ⌜ steps.Steps self (now (store .entry)) step r (now (store .exit)) ⌝ }
+    {
+        let n = self.n;
+        let mut words = self.words;
+        let mut halves = self.halves;
+        let mut bytes = self.bytes;
+        let mut flags = self.flags;
+        let answer = step::step_on(n, &mut words, &mut halves, &mut bytes, &mut flags, store, step);
+        let group = Group {
+            n: n,
+            words: words,
+            halves: halves,
+            bytes: bytes,
+            flags: flags,
+        };
+        Taken {
+            group: group,
+            answer: answer,
+        }
+    }
+}
+
+// Clears the store and hands process 1's E of round 0 over.
+pub(crate) fn begin(value: u32, store: &mut [u64])
+    requires { ⌜ limits.storeLength ≤ length (now store) ⌝ }
+    ensures { λ r. ⌜ now (store .exit) ≡ starts.opened value (now (store .entry)) ⌝ }
+{
+    Store::clear(store);
+    Store::hand_over(store, 1, Message::E { round: 0, proposer: 1, value });
+}
