@@ -30,7 +30,13 @@ pub struct Group {
 }
 
 // The record of process i.
-pub(crate) fn take_out(words: &[u32; 48], halves: &[u16; 32], bytes: &[u8; 48], flags: &[bool; 48], i: u8) -> Process
+pub(crate) fn take_out(
+    words: &[u32; 48],
+    halves: &[u16; 32],
+    bytes: &[u8; 48],
+    flags: &[bool; 48],
+    i: u8,
+) -> Process
     requires { ⌜ (1 ≤ i) × (i ≤ 16) ⌝ }
     ensures { λ r. ⌜ ((n : ℕ) → r ≡ records.processAt (records.groupOf n (now (words .entry)) (now (halves .entry)) (now (bytes .entry)) (now (flags .entry))) i) ⌝ }
 {
@@ -51,7 +57,14 @@ pub(crate) fn take_out(words: &[u32; 48], halves: &[u16; 32], bytes: &[u8; 48], 
 }
 
 // Puts p back as the record of process i.
-pub(crate) fn put_back(words: &mut [u32; 48], halves: &mut [u16; 32], bytes: &mut [u8; 48], flags: &mut [bool; 48], i: u8, p: Process)
+pub(crate) fn put_back(
+    words: &mut [u32; 48],
+    halves: &mut [u16; 32],
+    bytes: &mut [u8; 48],
+    flags: &mut [bool; 48],
+    i: u8,
+    p: Process,
+)
     requires { ⌜ (1 ≤ i) × (i ≤ 16) ⌝ }
     ensures { λ r. ⌜ ((n : ℕ) → records.groupOf n (now (words .exit)) (now (halves .exit)) (now (bytes .exit)) (now (flags .exit)) ≡ records.withProcess (records.groupOf n (now (words .entry)) (now (halves .entry)) (now (bytes .entry)) (now (flags .entry))) i p) ⌝ }
 {
@@ -104,7 +117,13 @@ pub(crate) fn whole(n: u8, p: Process) -> bool
 }
 
 // Whether a group is damaged: its size is not 1 to 16, or a record of its processes has damage.
-pub(crate) fn damaged(n: u8, words: &[u32; 48], halves: &[u16; 32], bytes: &[u8; 48], flags: &[bool; 48]) -> bool
+pub(crate) fn damaged(
+    n: u8,
+    words: &[u32; 48],
+    halves: &[u16; 32],
+    bytes: &[u8; 48],
+    flags: &[bool; 48],
+) -> bool
     ensures { λ r. ⌜ r ≡ refusals.damaged (records.groupOf n (now (words .entry)) (now (halves .entry)) (now (bytes .entry)) (now (flags .entry))) ⌝ }
 {
     if n == 0 {
@@ -125,7 +144,13 @@ pub(crate) fn damaged(n: u8, words: &[u32; 48], halves: &[u16; 32], bytes: &[u8;
 }
 
 // Starts the first processes of a group with the values, one record for each.
-pub(crate) fn fill(values: &[u32], words: &mut [u32; 48], halves: &mut [u16; 32], bytes: &mut [u8; 48], flags: &mut [bool; 48])
+pub(crate) fn fill(
+    values: &[u32],
+    words: &mut [u32; 48],
+    halves: &mut [u16; 32],
+    bytes: &mut [u8; 48],
+    flags: &mut [bool; 48],
+)
     requires { ⌜ (length (now values) ≤ 16) × (records.groupOf (length (now values)) (now words) (now halves) (now bytes) (now flags) ≡ records.blankGroup (length (now values))) ⌝ }
     ensures { λ r. ⌜ records.groupOf (length (now (values .entry))) (now (words .exit)) (now (halves .exit)) (now (bytes .exit)) (now (flags .exit)) ≡ starts.startedTo (now (values .entry)) (length (now (values .entry))) ⌝ }
 {
@@ -212,7 +237,10 @@ impl Group {
         };
         Taken {
             group: group,
-            answer: Answer::Applied { sent: 1, decided: false },
+            answer: Answer::Applied {
+                sent: 1,
+                decided: false,
+            },
         }
     }
 
@@ -225,7 +253,15 @@ impl Group {
         let mut halves = self.halves;
         let mut bytes = self.bytes;
         let mut flags = self.flags;
-        let answer = step::step_on(n, &mut words, &mut halves, &mut bytes, &mut flags, store, step);
+        let answer = step::step_on(
+            n,
+            &mut words,
+            &mut halves,
+            &mut bytes,
+            &mut flags,
+            store,
+            step,
+        );
         let group = Group {
             n: n,
             words: words,
@@ -246,5 +282,13 @@ pub(crate) fn begin(value: u32, store: &mut [u64])
     ensures { λ r. ⌜ now (store .exit) ≡ starts.opened value (now (store .entry)) ⌝ }
 {
     Store::clear(store);
-    Store::hand_over(store, 1, Message::E { round: 0, proposer: 1, value });
+    Store::hand_over(
+        store,
+        1,
+        Message::E {
+            round: 0,
+            proposer: 1,
+            value,
+        },
+    );
 }

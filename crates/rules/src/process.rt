@@ -152,7 +152,11 @@ impl Process {
         let process = self.takes(proposer, value);
         Next {
             process: process,
-            first: Message::E { round, proposer, value },
+            first: Message::E {
+                round,
+                proposer,
+                value,
+            },
             second: Message::Nothing,
         }
     }
@@ -178,7 +182,11 @@ impl Process {
         process.estimates = 0;
         Next {
             process: process,
-            first: Message::F { round, proposer, value },
+            first: Message::F {
+                round,
+                proposer,
+                value,
+            },
             second: Message::Nothing,
         }
     }
@@ -439,7 +447,11 @@ pub(crate) fn opens(n: u8, i: u8, round: u8, value: u32) -> Message
     ensures { λ r. ⌜ r ≡ events.opens n i round value ⌝ }
 {
     if i == coordinator(round, n) {
-        Message::E { round, proposer: i, value }
+        Message::E {
+            round,
+            proposer: i,
+            value,
+        }
     } else {
         Message::Nothing
     }

@@ -20,14 +20,42 @@ use crate::store::Store;
 
 // A step of a schedule. Its numbers are any numbers of 32 bits. A delivery and a suspicion may be cut.
 pub enum Step {
-    DeliverE { to: u32, from: u32, round: u32, cut: bool },
-    DeliverS { to: u32, from: u32, round: u32, cut: bool },
-    DeliverF { to: u32, from: u32, round: u32, cut: bool },
-    DeliverDecision { to: u32, from: u32, cut: bool },
-    Suspect { process: u32, cut: bool },
-    Pause { process: u32 },
-    Crash { process: u32 },
-    Recover { process: u32 },
+    DeliverE {
+        to: u32,
+        from: u32,
+        round: u32,
+        cut: bool,
+    },
+    DeliverS {
+        to: u32,
+        from: u32,
+        round: u32,
+        cut: bool,
+    },
+    DeliverF {
+        to: u32,
+        from: u32,
+        round: u32,
+        cut: bool,
+    },
+    DeliverDecision {
+        to: u32,
+        from: u32,
+        cut: bool,
+    },
+    Suspect {
+        process: u32,
+        cut: bool,
+    },
+    Pause {
+        process: u32,
+    },
+    Crash {
+        process: u32,
+    },
+    Recover {
+        process: u32,
+    },
 }
 
 // What a step answers: idle; applied, with how many entries turned from 0 and whether the process decided; or refused, with the number.
@@ -113,14 +141,29 @@ impl Process {
         }
     }
 
-    pub(crate) fn course_e(self, n: u8, i: u8, sender: u8, round: u8, entry: u64, cut: bool) -> Course
+    pub(crate) fn course_e(
+        self,
+        n: u8,
+        i: u8,
+        sender: u8,
+        round: u8,
+        entry: u64,
+        cut: bool,
+    ) -> Course
         requires { ⌜ (1 ≤ n) × (1 ≤ sender) × (sender ≤ 16) × (stores.proposerOf entry ≤ 16) ⌝ }
         ensures { λ r. ⌜ r ≡ steps.orIdle (idleness.idleE self sender round) cut i self (events.onE n i sender round (stores.proposerOf entry) (stores.valueOf entry) self) ⌝ }
     {
         if self.idle_e(sender, round) {
             return self.idles(i, cut);
         }
-        let next = self.on_e(n, i, sender, round, Store::proposer_of(entry), Store::value_of(entry));
+        let next = self.on_e(
+            n,
+            i,
+            sender,
+            round,
+            Store::proposer_of(entry),
+            Store::value_of(entry),
+        );
         Course::Takes(i, next.cut_if(cut))
     }
 
@@ -136,14 +179,29 @@ impl Process {
     }
 
     // An F that would take the process past the last round is refused.
-    pub(crate) fn course_f(self, n: u8, i: u8, sender: u8, round: u8, entry: u64, cut: bool) -> Course
+    pub(crate) fn course_f(
+        self,
+        n: u8,
+        i: u8,
+        sender: u8,
+        round: u8,
+        entry: u64,
+        cut: bool,
+    ) -> Course
         requires { ⌜ (1 ≤ n) × (1 ≤ sender) × (sender ≤ 16) × (self .round ≤ 63) × (round ≤ 63) × (stores.proposerOf entry ≤ 16) ⌝ }
         ensures { λ r. ⌜ r ≡ parts.orPast (idleness.idleF self sender round) cut i self (events.onF n i sender round (stores.proposerOf entry) (stores.valueOf entry) self) ⌝ }
     {
         if self.idle_f(sender, round) {
             return self.idles(i, cut);
         }
-        let next = self.on_f(n, i, sender, round, Store::proposer_of(entry), Store::value_of(entry));
+        let next = self.on_f(
+            n,
+            i,
+            sender,
+            round,
+            Store::proposer_of(entry),
+            Store::value_of(entry),
+        );
         if Process::LAST_ROUND < next.process.round {
             return Course::Refuses(8);
         }
@@ -173,7 +231,18 @@ impl Process {
 
 // ---- the course of a step over lent arrays, which it only reads
 
-pub(crate) fn on_e(n: u8, words: &[u32; 48], halves: &[u16; 32], bytes: &[u8; 48], flags: &[bool; 48], store: &[u64], to: u32, from: u32, round: u32, cut: bool) -> Course
+pub(crate) fn on_e(
+    n: u8,
+    words: &[u32; 48],
+    halves: &[u16; 32],
+    bytes: &[u8; 48],
+    flags: &[bool; 48],
+    store: &[u64],
+    to: u32,
+    from: u32,
+    round: u32,
+    cut: bool,
+) -> Course
     requires { ⌜ parts.Ready (groupOf n (now words) (now halves) (now bytes) (now flags)) (now store) ⌝ }
     ensures { λ r. ⌜ r ≡ steps.course (groupOf n (now (words .entry)) (now (halves .entry)) (now (bytes .entry)) (now (flags .entry))) (now (store .entry)) (Step.DeliverE to from round cut) ⌝ }
 {
@@ -191,7 +260,18 @@ pub(crate) fn on_e(n: u8, words: &[u32; 48], halves: &[u16; 32], bytes: &[u8; 48
     group::take_out(words, halves, bytes, flags, i).course_e(n, i, sender, round as u8, entry, cut)
 }
 
-pub(crate) fn on_s(n: u8, words: &[u32; 48], halves: &[u16; 32], bytes: &[u8; 48], flags: &[bool; 48], store: &[u64], to: u32, from: u32, round: u32, cut: bool) -> Course
+pub(crate) fn on_s(
+    n: u8,
+    words: &[u32; 48],
+    halves: &[u16; 32],
+    bytes: &[u8; 48],
+    flags: &[bool; 48],
+    store: &[u64],
+    to: u32,
+    from: u32,
+    round: u32,
+    cut: bool,
+) -> Course
     requires { ⌜ parts.Ready (groupOf n (now words) (now halves) (now bytes) (now flags)) (now store) ⌝ }
     ensures { λ r. ⌜ r ≡ steps.course (groupOf n (now (words .entry)) (now (halves .entry)) (now (bytes .entry)) (now (flags .entry))) (now (store .entry)) (Step.DeliverS to from round cut) ⌝ }
 {
@@ -209,7 +289,18 @@ pub(crate) fn on_s(n: u8, words: &[u32; 48], halves: &[u16; 32], bytes: &[u8; 48
     group::take_out(words, halves, bytes, flags, i).course_s(n, i, sender, round as u8, cut)
 }
 
-pub(crate) fn on_f(n: u8, words: &[u32; 48], halves: &[u16; 32], bytes: &[u8; 48], flags: &[bool; 48], store: &[u64], to: u32, from: u32, round: u32, cut: bool) -> Course
+pub(crate) fn on_f(
+    n: u8,
+    words: &[u32; 48],
+    halves: &[u16; 32],
+    bytes: &[u8; 48],
+    flags: &[bool; 48],
+    store: &[u64],
+    to: u32,
+    from: u32,
+    round: u32,
+    cut: bool,
+) -> Course
     requires { ⌜ parts.Ready (groupOf n (now words) (now halves) (now bytes) (now flags)) (now store) ⌝ }
     ensures { λ r. ⌜ r ≡ steps.course (groupOf n (now (words .entry)) (now (halves .entry)) (now (bytes .entry)) (now (flags .entry))) (now (store .entry)) (Step.DeliverF to from round cut) ⌝ }
 {
@@ -227,7 +318,17 @@ pub(crate) fn on_f(n: u8, words: &[u32; 48], halves: &[u16; 32], bytes: &[u8; 48
     group::take_out(words, halves, bytes, flags, i).course_f(n, i, sender, round as u8, entry, cut)
 }
 
-pub(crate) fn on_decision(n: u8, words: &[u32; 48], halves: &[u16; 32], bytes: &[u8; 48], flags: &[bool; 48], store: &[u64], to: u32, from: u32, cut: bool) -> Course
+pub(crate) fn on_decision(
+    n: u8,
+    words: &[u32; 48],
+    halves: &[u16; 32],
+    bytes: &[u8; 48],
+    flags: &[bool; 48],
+    store: &[u64],
+    to: u32,
+    from: u32,
+    cut: bool,
+) -> Course
     requires { ⌜ parts.Ready (groupOf n (now words) (now halves) (now bytes) (now flags)) (now store) ⌝ }
     ensures { λ r. ⌜ r ≡ steps.course (groupOf n (now (words .entry)) (now (halves .entry)) (now (bytes .entry)) (now (flags .entry))) (now (store .entry)) (Step.DeliverDecision to from cut) ⌝ }
 {
@@ -244,7 +345,16 @@ pub(crate) fn on_decision(n: u8, words: &[u32; 48], halves: &[u16; 32], bytes: &
     group::take_out(words, halves, bytes, flags, i).course_decision(i, entry, cut)
 }
 
-pub(crate) fn on_suspect(n: u8, words: &[u32; 48], halves: &[u16; 32], bytes: &[u8; 48], flags: &[bool; 48], store: &[u64], process: u32, cut: bool) -> Course
+pub(crate) fn on_suspect(
+    n: u8,
+    words: &[u32; 48],
+    halves: &[u16; 32],
+    bytes: &[u8; 48],
+    flags: &[bool; 48],
+    store: &[u64],
+    process: u32,
+    cut: bool,
+) -> Course
     requires { ⌜ parts.Ready (groupOf n (now words) (now halves) (now bytes) (now flags)) (now store) ⌝ }
     ensures { λ r. ⌜ r ≡ steps.course (groupOf n (now (words .entry)) (now (halves .entry)) (now (bytes .entry)) (now (flags .entry))) (now (store .entry)) (Step.Suspect process cut) ⌝ }
 {
@@ -256,7 +366,15 @@ pub(crate) fn on_suspect(n: u8, words: &[u32; 48], halves: &[u16; 32], bytes: &[
     group::take_out(words, halves, bytes, flags, i).course_suspect(i, cut)
 }
 
-pub(crate) fn on_pause(n: u8, words: &[u32; 48], halves: &[u16; 32], bytes: &[u8; 48], flags: &[bool; 48], store: &[u64], process: u32) -> Course
+pub(crate) fn on_pause(
+    n: u8,
+    words: &[u32; 48],
+    halves: &[u16; 32],
+    bytes: &[u8; 48],
+    flags: &[bool; 48],
+    store: &[u64],
+    process: u32,
+) -> Course
     requires { ⌜ parts.Ready (groupOf n (now words) (now halves) (now bytes) (now flags)) (now store) ⌝ }
     ensures { λ r. ⌜ r ≡ steps.course (groupOf n (now (words .entry)) (now (halves .entry)) (now (bytes .entry)) (now (flags .entry))) (now (store .entry)) (Step.Pause process) ⌝ }
 {
@@ -265,10 +383,21 @@ pub(crate) fn on_pause(n: u8, words: &[u32; 48], halves: &[u16; 32], bytes: &[u8
         return Course::Refuses(refusal);
     }
     let i = process as u8;
-    Course::Takes(i, group::take_out(words, halves, bytes, flags, i).on_pause())
+    Course::Takes(
+        i,
+        group::take_out(words, halves, bytes, flags, i).on_pause(),
+    )
 }
 
-pub(crate) fn on_crash(n: u8, words: &[u32; 48], halves: &[u16; 32], bytes: &[u8; 48], flags: &[bool; 48], store: &[u64], process: u32) -> Course
+pub(crate) fn on_crash(
+    n: u8,
+    words: &[u32; 48],
+    halves: &[u16; 32],
+    bytes: &[u8; 48],
+    flags: &[bool; 48],
+    store: &[u64],
+    process: u32,
+) -> Course
     requires { ⌜ parts.Ready (groupOf n (now words) (now halves) (now bytes) (now flags)) (now store) ⌝ }
     ensures { λ r. ⌜ r ≡ steps.course (groupOf n (now (words .entry)) (now (halves .entry)) (now (bytes .entry)) (now (flags .entry))) (now (store .entry)) (Step.Crash process) ⌝ }
 {
@@ -277,11 +406,22 @@ pub(crate) fn on_crash(n: u8, words: &[u32; 48], halves: &[u16; 32], bytes: &[u8
         return Course::Refuses(refusal);
     }
     let i = process as u8;
-    Course::Takes(i, group::take_out(words, halves, bytes, flags, i).on_crash())
+    Course::Takes(
+        i,
+        group::take_out(words, halves, bytes, flags, i).on_crash(),
+    )
 }
 
 // A process that is up is not recovered: it is refused.
-pub(crate) fn on_recover(n: u8, words: &[u32; 48], halves: &[u16; 32], bytes: &[u8; 48], flags: &[bool; 48], store: &[u64], process: u32) -> Course
+pub(crate) fn on_recover(
+    n: u8,
+    words: &[u32; 48],
+    halves: &[u16; 32],
+    bytes: &[u8; 48],
+    flags: &[bool; 48],
+    store: &[u64],
+    process: u32,
+) -> Course
     requires { ⌜ parts.Ready (groupOf n (now words) (now halves) (now bytes) (now flags)) (now store) ⌝ }
     ensures { λ r. ⌜ r ≡ steps.course (groupOf n (now (words .entry)) (now (halves .entry)) (now (bytes .entry)) (now (flags .entry))) (now (store .entry)) (Step.Recover process) ⌝ }
 {
@@ -296,16 +436,58 @@ pub(crate) fn on_recover(n: u8, words: &[u32; 48], halves: &[u16; 32], bytes: &[
     Course::Takes(i, p.on_recover())
 }
 
-pub(crate) fn course_of(n: u8, words: &[u32; 48], halves: &[u16; 32], bytes: &[u8; 48], flags: &[bool; 48], store: &[u64], step: Step) -> Course
+pub(crate) fn course_of(
+    n: u8,
+    words: &[u32; 48],
+    halves: &[u16; 32],
+    bytes: &[u8; 48],
+    flags: &[bool; 48],
+    store: &[u64],
+    step: Step,
+) -> Course
     requires { ⌜ parts.Ready (groupOf n (now words) (now halves) (now bytes) (now flags)) (now store) ⌝ }
     ensures { λ r. ⌜ r ≡ steps.course (groupOf n (now (words .entry)) (now (halves .entry)) (now (bytes .entry)) (now (flags .entry))) (now (store .entry)) step ⌝ }
 {
     match step {
-        Step::DeliverE { to, from, round, cut } => on_e(n, words, halves, bytes, flags, store, to, from, round, cut),
-        Step::DeliverS { to, from, round, cut } => on_s(n, words, halves, bytes, flags, store, to, from, round, cut),
-        Step::DeliverF { to, from, round, cut } => on_f(n, words, halves, bytes, flags, store, to, from, round, cut),
-        Step::DeliverDecision { to, from, cut } => on_decision(n, words, halves, bytes, flags, store, to, from, cut),
-        Step::Suspect { process, cut } => on_suspect(n, words, halves, bytes, flags, store, process, cut),
+        Step::DeliverE {
+            to,
+            from,
+            round,
+            cut,
+        } => on_e(n, words, halves, bytes, flags, store, to, from, round, cut),
+        Step::DeliverS {
+            to,
+            from,
+            round,
+            cut,
+        } => on_s(n, words, halves, bytes, flags, store, to, from, round, cut),
+        Step::DeliverF {
+            to,
+            from,
+            round,
+            cut,
+        } => on_f(n, words, halves, bytes, flags, store, to, from, round, cut),
+        Step::DeliverDecision { to, from, cut } => on_decision(
+            n,
+            words,
+            halves,
+            bytes,
+            flags,
+            store,
+            to,
+            from,
+            cut,
+        ),
+        Step::Suspect { process, cut } => on_suspect(
+            n,
+            words,
+            halves,
+            bytes,
+            flags,
+            store,
+            process,
+            cut,
+        ),
         Step::Pause { process } => on_pause(n, words, halves, bytes, flags, store, process),
         Step::Crash { process } => on_crash(n, words, halves, bytes, flags, store, process),
         Step::Recover { process } => on_recover(n, words, halves, bytes, flags, store, process),
@@ -322,7 +504,16 @@ pub(crate) fn decides_now(before: bool, after: bool) -> bool
 }
 
 // Process i takes the next record, and its messages are handed over.
-pub(crate) fn finish(n: u8, words: &mut [u32; 48], halves: &mut [u16; 32], bytes: &mut [u8; 48], flags: &mut [bool; 48], store: &mut [u64], i: u8, next: Next) -> Answer
+pub(crate) fn finish(
+    n: u8,
+    words: &mut [u32; 48],
+    halves: &mut [u16; 32],
+    bytes: &mut [u8; 48],
+    flags: &mut [bool; 48],
+    store: &mut [u64],
+    i: u8,
+    next: Next,
+) -> Answer
     requires { ⌜ parts.Handable i next (now store) ⌝ }
     ensures { λ r. ⌜ outcome (groupOf n (now (words .exit)) (now (halves .exit)) (now (bytes .exit)) (now (flags .exit))) (now (store .exit)) (said r) ≡ steps.settled (groupOf n (now (words .entry)) (now (halves .entry)) (now (bytes .entry)) (now (flags .entry))) (now (store .entry)) (Course.Takes i next) ⌝ }
 {
@@ -341,7 +532,15 @@ pub(crate) fn finish(n: u8, words: &mut [u32; 48], halves: &mut [u16; 32], bytes
 }
 
 // One step of a group that is not damaged over a store that is not short.
-pub(crate) fn step_sound(n: u8, words: &mut [u32; 48], halves: &mut [u16; 32], bytes: &mut [u8; 48], flags: &mut [bool; 48], store: &mut [u64], step: Step) -> Answer
+pub(crate) fn step_sound(
+    n: u8,
+    words: &mut [u32; 48],
+    halves: &mut [u16; 32],
+    bytes: &mut [u8; 48],
+    flags: &mut [bool; 48],
+    store: &mut [u64],
+    step: Step,
+) -> Answer
     requires { ⌜ parts.Ready (groupOf n (now words) (now halves) (now bytes) (now flags)) (now store) ⌝ }
     ensures { λ r. ⌜ outcome (groupOf n (now (words .exit)) (now (halves .exit)) (now (bytes .exit)) (now (flags .exit))) (now (store .exit)) (said r) ≡ steps.stepped (groupOf n (now (words .entry)) (now (halves .entry)) (now (bytes .entry)) (now (flags .entry))) (now (store .entry)) step ⌝ }
 {
@@ -354,7 +553,15 @@ pub(crate) fn step_sound(n: u8, words: &mut [u32; 48], halves: &mut [u16; 32], b
 }
 
 // One step of any group over any store: what `Group::step` does, on the group's own arrays, lent.
-pub fn step_on(n: u8, words: &mut [u32; 48], halves: &mut [u16; 32], bytes: &mut [u8; 48], flags: &mut [bool; 48], store: &mut [u64], step: Step) -> Answer
+pub fn step_on(
+    n: u8,
+    words: &mut [u32; 48],
+    halves: &mut [u16; 32],
+    bytes: &mut [u8; 48],
+    flags: &mut [bool; 48],
+    store: &mut [u64],
+    step: Step,
+) -> Answer
     ensures { λ r. ⌜ outcome (groupOf n (now (words .exit)) (now (halves .exit)) (now (bytes .exit)) (now (flags .exit))) (now (store .exit)) (said r) ≡ steps.stepped (groupOf n (now (words .entry)) (now (halves .entry)) (now (bytes .entry)) (now (flags .entry))) (now (store .entry)) step ⌝ }
 {
     if store.len() < Store::LENGTH {

@@ -17,7 +17,9 @@ impl Store {
 
     // The kinds of messages that have a round.
     pub(crate) const E: usize = 0;
+
     pub(crate) const S: usize = 1;
+
     pub(crate) const F: usize = 2;
 
     pub fn length() -> usize
@@ -80,10 +82,34 @@ impl Store {
     {
         match message {
             Message::Nothing => 0,
-            Message::E { round, proposer, value } => Store::write(store, Store::slot(round, i, Store::E), Store::entry_of(proposer, value)),
-            Message::S { round } => Store::write(store, Store::slot(round, i, Store::S), Store::entry_of(i, 0)),
-            Message::F { round, proposer, value } => Store::write(store, Store::slot(round, i, Store::F), Store::entry_of(proposer, value)),
-            Message::Decision { value } => Store::write(store, Store::decision_slot(i), Store::entry_of(i, value)),
+            Message::E {
+                round,
+                proposer,
+                value,
+            } => Store::write(
+                store,
+                Store::slot(round, i, Store::E),
+                Store::entry_of(proposer, value),
+            ),
+            Message::S { round } => Store::write(
+                store,
+                Store::slot(round, i, Store::S),
+                Store::entry_of(i, 0),
+            ),
+            Message::F {
+                round,
+                proposer,
+                value,
+            } => Store::write(
+                store,
+                Store::slot(round, i, Store::F),
+                Store::entry_of(proposer, value),
+            ),
+            Message::Decision { value } => Store::write(
+                store,
+                Store::decision_slot(i),
+                Store::entry_of(i, value),
+            ),
         }
     }
 

@@ -6,8 +6,6 @@ use mathlib.Core.Bool.{Bool, _&&_}
 use mathlib.Core.Path.{ap, sym, _∙_}
 use Rattle.rules.proofs.group.among.Statement.{statement}
 use Rattle.rules.proofs.group.among.Tie as tie
-use Rattle.rules.proofs.group.among.Reads as reads
-use Rattle.rules.proofs.group.among.Lts as lts
 
 returns : tie.Need-returns
 unfolding among

@@ -2,16 +2,10 @@
 use Rattle.rules.specs.Start.{opened, firstMessage}
 use Rattle.rules.specs.Store.{handOver, messageRound}
 use native.Mathlib.Omega.{arith}
-use Prim.Native.Nat.{ℕ}
-use mathlib.Core.List.{List}
 use mathlib.Core.Path.{ap, _∙_}
 use borrow.Author.Needs.{needs}
 use Rattle.rules.proofs.group.begin.Statement.{statement}
 use Rattle.rules.proofs.group.begin.Tie as tie
-use Rattle.rules.proofs.group.begin.Reads as reads
-use Rattle.rules.proofs.group.begin.Lts as lts
-use Rattle.rules.proofs.store.Store.clear.Reads as clear-reads
-use Rattle.rules.proofs.store.Store.hand_over.Reads as hand-over-reads
 
 clear-requires : tie.Need-clear-requires
 clear-requires c κs = search needs

@@ -9,15 +9,10 @@ use lib.Dec.{leb}
 use native.Mathlib.Omega.{arith}
 use Prim.Native.Nat.{ℕ, _+_, _≤_, _<_, _-_}
 use mathlib.Core.Bool.{Bool, true, false, _&&_, not, and-false}
-use mathlib.Core.Path.{_≡_, refl, sym, ap, _∙_}
+use mathlib.Core.Path.{_≡_, sym, ap, _∙_}
 use Rattle.rules.proofs.group.damaged.Statement.{statement}
 use Rattle.rules.proofs.group.damaged.Tie as tie
-use Rattle.rules.proofs.group.damaged.Reads as reads
-use Rattle.rules.proofs.group.damaged.Lts as lts
-use Rattle.rules.proofs.group.take_out.Reads as take-out-reads
-use Rattle.rules.proofs.group.whole.Reads as whole-reads
 
--- {helpers}
 -- process i of g is whole
 abbrev wholeIn : Group → ℕ → Bool
 wholeIn g i = whole (g .n) (processAt g i)
@@ -42,8 +37,6 @@ too-small m h = ap (λ (b : Bool). b && leb m 16) (lt-leb 1 m (omega arith))
 too-large : (m : ℕ) → 16 < m → among 16 m ≡ false
 unfolding among
 too-large m h = ap (λ (b : Bool). leb 1 m && b) (lt-leb m 16 h) ∙ and-false (leb 1 m)
--- {end}
-
 
 abbrev Inv-loop : tie.InvT-loop
 Inv-loop n words halves bytes flags k₀ k = (1 ≤ n) × (n ≤ 16) × (k ≤ n) × (allOf (wholeIn (groupOf n words halves bytes flags)) k ≡ true)

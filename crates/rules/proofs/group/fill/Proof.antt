@@ -7,17 +7,12 @@ use Rattle.rules.specs.declared.group.Group.{Group}
 use lib.ListN.{length, getD}
 use native.Mathlib.Omega.{arith}
 use native.Mathlib.Numerals.{add-one}
-use Prim.Native.Nat.{ℕ, suc, _+_, _-_, _*_, _≤_, _<_}
+use Prim.Native.Nat.{ℕ, _+_, _-_, _≤_}
 use mathlib.Core.List.{List}
 use mathlib.Core.Path.{_≡_, refl, sym, ap, ap₂, _∙_}
 use Rattle.rules.proofs.group.fill.Statement.{statement}
 use Rattle.rules.proofs.group.fill.Tie as tie
-use Rattle.rules.proofs.group.fill.Reads as reads
-use Rattle.rules.proofs.group.fill.Lts as lts
-use Rattle.rules.proofs.group.put_back.Reads as put-back-reads
-use Rattle.rules.proofs.process.Process.fresh.Reads as fresh-reads
 
--- {helpers}
 started-none : (vs : List ℕ) → startedTo vs 0 ≡ blankGroup (length vs)
 unfolding startedTo
 started-none vs = refl
@@ -25,7 +20,6 @@ started-none vs = refl
 started-more : (vs : List ℕ) (k : ℕ) → withProcess (startedTo vs k) (k + 1) (fresh (k + 1) (getD vs k 0)) ≡ startedTo vs (k + 1)
 unfolding startedTo
 started-more vs k = rw (add-one k)
--- {end}
 
 abbrev Inv-loop : tie.InvT-loop
 Inv-loop values words₀ halves₀ bytes₀ flags₀ k₀ words halves bytes flags k = (length values ≤ 16) × (k ≤ length values) × (groupOf (length values) words halves bytes flags ≡ startedTo values k)

@@ -5,8 +5,6 @@ use mathlib.Core.Bool.{Bool, _||_}
 use mathlib.Core.Path.{sym, ap, _∙_}
 use Rattle.rules.proofs.group.is_phase.Statement.{statement}
 use Rattle.rules.proofs.group.is_phase.Tie as tie
-use Rattle.rules.proofs.group.is_phase.Reads as reads
-use Rattle.rules.proofs.group.is_phase.Lts as lts
 
 returns : tie.Need-returns
 returns c =

@@ -4,8 +4,6 @@ use mathlib.Core.Path.{refl}
 use borrow.Author.Needs.{needs}
 use Rattle.rules.proofs.group.put_back.Statement.{statement}
 use Rattle.rules.proofs.group.put_back.Tie as tie
-use Rattle.rules.proofs.group.put_back.Reads as reads
-use Rattle.rules.proofs.group.put_back.Lts as lts
 
 sub-at : tie.Need-sub-at
 sub-at c = search needs

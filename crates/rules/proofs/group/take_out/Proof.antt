@@ -4,8 +4,6 @@ use mathlib.Core.Path.{refl}
 use borrow.Author.Needs.{needs}
 use Rattle.rules.proofs.group.take_out.Statement.{statement}
 use Rattle.rules.proofs.group.take_out.Tie as tie
-use Rattle.rules.proofs.group.take_out.Reads as reads
-use Rattle.rules.proofs.group.take_out.Lts as lts
 
 sub-at : tie.Need-sub-at
 sub-at c = search needs

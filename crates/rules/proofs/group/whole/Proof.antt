@@ -11,13 +11,7 @@ use mathlib.Core.Path.{_≡_, sym, _∙_}
 use borrow.Author.Needs.{needs}
 use Rattle.rules.proofs.group.whole.Statement.{statement}
 use Rattle.rules.proofs.group.whole.Tie as tie
-use Rattle.rules.proofs.group.whole.Reads as reads
-use Rattle.rules.proofs.group.whole.Lts as lts
-use Rattle.rules.proofs.group.among.Reads as among-reads
-use Rattle.rules.proofs.group.is_phase.Reads as is-phase-reads
-use Rattle.rules.proofs.tally.within.Reads as within-reads
 
--- {helpers}
 module _ (n : ℕ) (p : Process) where
   bad-round : leb (p .round) lastRound ≡ false → false ≡ whole n p
   unfolding whole
@@ -40,8 +34,6 @@ module _ (n : ℕ) (p : Process) where
       → within (p .estimates) n ≡ false → false ≡ whole n p
   unfolding whole
   bad-estimates a b d e = rw (a, b, d, e)
--- {end}
-
 
 returns : tie.Need-returns
 returns c = bad-round (c .before .before .args .n) (c .before .before .args .p) (lt-leb _ _ (c .if1 .taken))

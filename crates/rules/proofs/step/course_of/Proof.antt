@@ -4,16 +4,6 @@ use mathlib.Core.Path.{sym, ap, _∙_}
 use borrow.Author.Needs.{needs}
 use Rattle.rules.proofs.step.course_of.Statement.{statement}
 use Rattle.rules.proofs.step.course_of.Tie as tie
-use Rattle.rules.proofs.step.course_of.Reads as reads
-use Rattle.rules.proofs.step.course_of.Lts as lts
-use Rattle.rules.proofs.step.on_crash.Reads as on-crash-reads
-use Rattle.rules.proofs.step.on_decision.Reads as on-decision-reads
-use Rattle.rules.proofs.step.on_e.Reads as on-e-reads
-use Rattle.rules.proofs.step.on_f.Reads as on-f-reads
-use Rattle.rules.proofs.step.on_pause.Reads as on-pause-reads
-use Rattle.rules.proofs.step.on_recover.Reads as on-recover-reads
-use Rattle.rules.proofs.step.on_s.Reads as on-s-reads
-use Rattle.rules.proofs.step.on_suspect.Reads as on-suspect-reads
 
 enum-known-step : tie.Need-enum-known-step
 enum-known-step c = search needs

@@ -4,19 +4,14 @@ use Rattle.rules.specs.Parts.{deliveryRows}
 use Rattle.rules.specs.Refusals.{row, among}
 use Rattle.rules.specs.Limits.{lastRound}
 use borrow.Author.Tests.{lt-ltb, le-ltb, not-true, not-false}
-use lib.Dec.{ltb}
 use native.Mathlib.Omega.{arith}
 use Prim.Native.Nat.{ℕ, _<_, _≤_}
-use mathlib.Core.Bool.{Bool, true, false, _&&_, not}
-use mathlib.Core.Path.{_≡_, refl, sym, _∙_}
+use mathlib.Core.Bool.{Bool, true, false}
+use mathlib.Core.Path.{_≡_, sym, _∙_}
 use borrow.Author.Needs.{needs}
 use Rattle.rules.proofs.step.delivery_refusal.Statement.{statement}
 use Rattle.rules.proofs.step.delivery_refusal.Tie as tie
-use Rattle.rules.proofs.step.delivery_refusal.Reads as reads
-use Rattle.rules.proofs.step.delivery_refusal.Lts as lts
-use Rattle.rules.proofs.group.among.Reads as among-reads
 
--- {helpers}
 module _ (n : ℕ) (up : Bool) (i j r : ℕ) where
   strange-to : among n i ≡ false → 3 ≡ deliveryRows n up i j r
   unfolding deliveryRows row
@@ -37,9 +32,6 @@ module _ (n : ℕ) (up : Bool) (i j r : ℕ) where
   fit : among n i ≡ true → among n j ≡ true → r ≤ lastRound → up ≡ true → 0 ≡ deliveryRows n up i j r
   unfolding deliveryRows row
   fit a b h e = rw (a, b, le-ltb lastRound r h, e)
--- {end}
-
-
 
 among-requires : tie.Need-among-requires
 among-requires c κs = search needs

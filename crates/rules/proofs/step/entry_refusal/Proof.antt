@@ -6,15 +6,11 @@ use borrow.Author.Tests.{eq-eqb, ne-eqb, not-true, not-false}
 use lib.Dec.{eqb}
 use Prim.Native.Nat.{ℕ}
 use mathlib.Core.Bool.{true, false}
-use mathlib.Core.Path.{_≡_, refl, sym, _∙_}
+use mathlib.Core.Path.{_≡_, sym, _∙_}
 use borrow.Author.Needs.{needs}
 use Rattle.rules.proofs.step.entry_refusal.Statement.{statement}
 use Rattle.rules.proofs.step.entry_refusal.Tie as tie
-use Rattle.rules.proofs.step.entry_refusal.Reads as reads
-use Rattle.rules.proofs.step.entry_refusal.Lts as lts
-use Rattle.rules.proofs.group.among.Reads as among-reads
 
--- {helpers}
 module _ (n e : ℕ) where
   unsent : eqb e 0 ≡ true → 6 ≡ entryRows n e
   unfolding entryRows row
@@ -27,7 +23,6 @@ module _ (n e : ℕ) where
   fit : eqb e 0 ≡ false → among n (proposerOf e) ≡ true → 0 ≡ entryRows n e
   unfolding entryRows row
   fit a b = rw (a, b)
--- {end}
 
 returns : tie.Need-returns
 returns c = unsent _ _ (eq-eqb _ 0 (c .if1 .taken))

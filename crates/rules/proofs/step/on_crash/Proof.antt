@@ -7,11 +7,6 @@ use mathlib.Core.Path.{sym, ap, _∙_}
 use borrow.Author.Needs.{needs}
 use Rattle.rules.proofs.step.on_crash.Statement.{statement}
 use Rattle.rules.proofs.step.on_crash.Tie as tie
-use Rattle.rules.proofs.step.on_crash.Reads as reads
-use Rattle.rules.proofs.step.on_crash.Lts as lts
-use Rattle.rules.proofs.group.take_out.Reads as take-out-reads
-use Rattle.rules.proofs.process.Process.on_crash.Reads as on-crash-reads
-use Rattle.rules.proofs.step.own_refusal.Reads as own-refusal-reads
 
 own-refusal-requires : tie.Need-own-refusal-requires
 own-refusal-requires c κs = sound-facts _ (c .before .pre .sound) .high

@@ -1,21 +1,14 @@
 -- `on_decision` meets its contract: the rows of the table in their order, then the course of the process. Assumes nothing.
-use Rattle.rules.proofs.CourseLaws.{delivery-refuses, entry-refuses, delivery-passes, a-decision, course-decision, admits, names}
+use Rattle.rules.proofs.CourseLaws.{delivery-refuses, entry-refuses, delivery-passes, a-decision, course-decision, admits}
 use Rattle.rules.proofs.SoundLaws.{sound-facts}
 use Rattle.rules.specs.Parts.{entryRows}
 use lib.ListN.{getD}
 use native.Mathlib.Omega.{arith}
 use Prim.Native.Nat.{ℕ}
-use mathlib.Core.Path.{_≡_, sym, ap, _∙_}
+use mathlib.Core.Path.{sym, ap, _∙_}
 use borrow.Author.Needs.{needs}
 use Rattle.rules.proofs.step.on_decision.Statement.{statement}
 use Rattle.rules.proofs.step.on_decision.Tie as tie
-use Rattle.rules.proofs.step.on_decision.Reads as reads
-use Rattle.rules.proofs.step.on_decision.Lts as lts
-use Rattle.rules.proofs.group.take_out.Reads as take-out-reads
-use Rattle.rules.proofs.process.Process.course_decision.Reads as course-decision-reads
-use Rattle.rules.proofs.step.delivery_refusal.Reads as delivery-refusal-reads
-use Rattle.rules.proofs.step.entry_refusal.Reads as entry-refusal-reads
-use Rattle.rules.proofs.store.Store.decision_slot.Reads as decision-slot-reads
 
 delivery-refusal-requires : tie.Need-delivery-refusal-requires
 delivery-refusal-requires c κs = sound-facts _ (c .before .pre .sound) .high

@@ -5,17 +5,10 @@ use Rattle.rules.specs.Parts.{entryRows}
 use lib.ListN.{getD}
 use native.Mathlib.Omega.{arith}
 use Prim.Native.Nat.{ℕ}
-use mathlib.Core.Path.{_≡_, sym, ap, _∙_}
+use mathlib.Core.Path.{sym, ap, _∙_}
 use borrow.Author.Needs.{needs}
 use Rattle.rules.proofs.step.on_e.Statement.{statement}
 use Rattle.rules.proofs.step.on_e.Tie as tie
-use Rattle.rules.proofs.step.on_e.Reads as reads
-use Rattle.rules.proofs.step.on_e.Lts as lts
-use Rattle.rules.proofs.group.take_out.Reads as take-out-reads
-use Rattle.rules.proofs.process.Process.course_e.Reads as course-e-reads
-use Rattle.rules.proofs.step.delivery_refusal.Reads as delivery-refusal-reads
-use Rattle.rules.proofs.step.entry_refusal.Reads as entry-refusal-reads
-use Rattle.rules.proofs.store.Store.slot.Reads as slot-reads
 
 delivery-refusal-requires : tie.Need-delivery-refusal-requires
 delivery-refusal-requires c κs = sound-facts _ (c .before .pre .sound) .high

@@ -7,11 +7,6 @@ use mathlib.Core.Path.{sym, ap, _∙_}
 use borrow.Author.Needs.{needs}
 use Rattle.rules.proofs.step.on_pause.Statement.{statement}
 use Rattle.rules.proofs.step.on_pause.Tie as tie
-use Rattle.rules.proofs.step.on_pause.Reads as reads
-use Rattle.rules.proofs.step.on_pause.Lts as lts
-use Rattle.rules.proofs.group.take_out.Reads as take-out-reads
-use Rattle.rules.proofs.process.Process.on_pause.Reads as on-pause-reads
-use Rattle.rules.proofs.step.own_refusal.Reads as own-refusal-reads
 
 own-refusal-requires : tie.Need-own-refusal-requires
 own-refusal-requires c κs = sound-facts _ (c .before .pre .sound) .high

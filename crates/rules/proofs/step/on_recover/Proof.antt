@@ -7,11 +7,6 @@ use mathlib.Core.Path.{sym, ap, _∙_}
 use borrow.Author.Needs.{needs}
 use Rattle.rules.proofs.step.on_recover.Statement.{statement}
 use Rattle.rules.proofs.step.on_recover.Tie as tie
-use Rattle.rules.proofs.step.on_recover.Reads as reads
-use Rattle.rules.proofs.step.on_recover.Lts as lts
-use Rattle.rules.proofs.group.among.Reads as among-reads
-use Rattle.rules.proofs.group.take_out.Reads as take-out-reads
-use Rattle.rules.proofs.process.Process.on_recover.Reads as on-recover-reads
 
 among-requires : tie.Need-among-requires
 among-requires c κs = search needs

@@ -6,11 +6,6 @@ use mathlib.Core.Path.{sym, _∙_}
 use borrow.Author.Needs.{needs}
 use Rattle.rules.proofs.step.on_suspect.Statement.{statement}
 use Rattle.rules.proofs.step.on_suspect.Tie as tie
-use Rattle.rules.proofs.step.on_suspect.Reads as reads
-use Rattle.rules.proofs.step.on_suspect.Lts as lts
-use Rattle.rules.proofs.group.take_out.Reads as take-out-reads
-use Rattle.rules.proofs.process.Process.course_suspect.Reads as course-suspect-reads
-use Rattle.rules.proofs.step.own_refusal.Reads as own-refusal-reads
 
 own-refusal-requires : tie.Need-own-refusal-requires
 own-refusal-requires c κs = sound-facts _ (c .before .pre .sound) .high

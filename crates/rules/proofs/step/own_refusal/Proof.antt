@@ -5,16 +5,12 @@ use Rattle.rules.specs.Refusals.{row, among}
 use borrow.Author.Tests.{not-true, not-false}
 use native.Mathlib.Omega.{arith}
 use Prim.Native.Nat.{ℕ}
-use mathlib.Core.Bool.{Bool, true, false, _&&_, not}
-use mathlib.Core.Path.{_≡_, refl, sym, _∙_}
+use mathlib.Core.Bool.{Bool, true, false}
+use mathlib.Core.Path.{_≡_, sym, _∙_}
 use borrow.Author.Needs.{needs}
 use Rattle.rules.proofs.step.own_refusal.Statement.{statement}
 use Rattle.rules.proofs.step.own_refusal.Tie as tie
-use Rattle.rules.proofs.step.own_refusal.Reads as reads
-use Rattle.rules.proofs.step.own_refusal.Lts as lts
-use Rattle.rules.proofs.group.among.Reads as among-reads
 
--- {helpers}
 module _ (n : ℕ) (up : Bool) (i : ℕ) where
   strange : among n i ≡ false → 3 ≡ ownRows n up i
   unfolding ownRows row
@@ -27,8 +23,6 @@ module _ (n : ℕ) (up : Bool) (i : ℕ) where
   fit : among n i ≡ true → up ≡ true → 0 ≡ ownRows n up i
   unfolding ownRows row
   fit a e = rw (a, e)
--- {end}
-
 
 among-requires : tie.Need-among-requires
 among-requires c κs = search needs

@@ -7,10 +7,6 @@ use mathlib.Core.Path.{sym, _∙_}
 use borrow.Author.Needs.{needs}
 use Rattle.rules.proofs.step.step_on.Statement.{statement}
 use Rattle.rules.proofs.step.step_on.Tie as tie
-use Rattle.rules.proofs.step.step_on.Reads as reads
-use Rattle.rules.proofs.step.step_on.Lts as lts
-use Rattle.rules.proofs.group.damaged.Reads as damaged-reads
-use Rattle.rules.proofs.step.step_sound.Reads as step-sound-reads
 
 returns : tie.Need-returns
 unfolding said short

@@ -5,10 +5,6 @@ use mathlib.Core.Path.{sym, _∙_}
 use borrow.Author.Needs.{needs}
 use Rattle.rules.proofs.step.step_sound.Statement.{statement}
 use Rattle.rules.proofs.step.step_sound.Tie as tie
-use Rattle.rules.proofs.step.step_sound.Reads as reads
-use Rattle.rules.proofs.step.step_sound.Lts as lts
-use Rattle.rules.proofs.step.course_of.Reads as course-of-reads
-use Rattle.rules.proofs.step.finish.Reads as finish-reads
 
 course-of-requires : tie.Need-course-of-requires
 course-of-requires c κs = search needs

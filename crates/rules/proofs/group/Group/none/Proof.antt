@@ -3,8 +3,6 @@ use Rattle.rules.specs.Records.{blankGroup}
 use mathlib.Core.Path.{refl}
 use Rattle.rules.proofs.group.Group.none.Statement.{statement}
 use Rattle.rules.proofs.group.Group.none.Tie as tie
-use Rattle.rules.proofs.group.Group.none.Reads as reads
-use Rattle.rules.proofs.group.Group.none.Lts as lts
 
 returns : tie.Need-returns
 unfolding blankGroup

@@ -7,17 +7,11 @@ use borrow.Author.Tests.{not-true, not-false}
 use native.Mathlib.Omega.{arith}
 use Prim.Native.Nat.{ℕ}
 use mathlib.Core.Bool.{true, false}
-use mathlib.Core.Path.{_≡_, refl, sym, _∙_}
+use mathlib.Core.Path.{_≡_, sym, _∙_}
 use borrow.Author.Needs.{needs}
 use Rattle.rules.proofs.group.Group.process.Statement.{statement}
 use Rattle.rules.proofs.group.Group.process.Tie as tie
-use Rattle.rules.proofs.group.Group.process.Reads as reads
-use Rattle.rules.proofs.group.Group.process.Lts as lts
-use Rattle.rules.proofs.group.among.Reads as among-reads
-use Rattle.rules.proofs.group.take_out.Reads as take-out-reads
-use Rattle.rules.proofs.process.Process.blank.Reads as blank-reads
 
--- {helpers}
 outside : (g : Group) (i : ℕ) → among 16 i ≡ false → blank ≡ recordOf g i
 unfolding recordOf recordIf among
 outside g i a = rw a
@@ -25,7 +19,6 @@ outside g i a = rw a
 inside : (g : Group) (i : ℕ) → among 16 i ≡ true → processAt g i ≡ recordOf g i
 unfolding recordOf recordIf among
 inside g i a = rw a
--- {end}
 
 among-requires : tie.Need-among-requires
 among-requires c κs = search needs

@@ -2,28 +2,22 @@
 use Rattle.rules.proofs.RowLaws.{among-in}
 use Rattle.rules.specs.Start.{begun, unlessRefusedStart, started}
 use Rattle.rules.specs.Refusals.{row, among, short, miscounted, startRefusal}
-use Rattle.rules.specs.Answers.{outcome, refused, said, saysRefused, saysApplied}
-use Rattle.rules.specs.Records.{blankGroup, groupOf}
+use Rattle.rules.specs.Answers.{outcome, refused, said, saysApplied}
+use Rattle.rules.specs.Records.{blankGroup}
 use Rattle.rules.specs.Limits.{storeLength}
 use Rattle.rules.specs.declared.group.Group.{Group}
 use borrow.Author.Tests.{lt-ltb, le-ltb, lt-leb}
 use lib.ListN.{length}
-use lib.Dec.{leb, ltb}
+use lib.Dec.{leb}
 use native.Mathlib.Omega.{arith}
 use Prim.Native.Nat.{ℕ, _≤_, _<_}
 use mathlib.Core.List.{List}
 use mathlib.Core.Bool.{Bool, true, false, _&&_, not, and-false}
-use mathlib.Core.Path.{_≡_, refl, sym, ap, ap₂, _∙_}
+use mathlib.Core.Path.{_≡_, refl, ap, ap₂, _∙_}
 use borrow.Author.Needs.{needs}
 use Rattle.rules.proofs.group.Group.start.Statement.{statement}
 use Rattle.rules.proofs.group.Group.start.Tie as tie
-use Rattle.rules.proofs.group.Group.start.Reads as reads
-use Rattle.rules.proofs.group.Group.start.Lts as lts
-use Rattle.rules.proofs.group.Group.none.Reads as none-reads
-use Rattle.rules.proofs.group.begin.Reads as begin-reads
-use Rattle.rules.proofs.group.fill.Reads as fill-reads
 
--- {helpers}
 module _ (vs l : List ℕ) where
   too-short : length l < storeLength → refused (blankGroup 0) l 11 ≡ started vs l
   unfolding started unlessRefusedStart startRefusal row short
@@ -48,7 +42,6 @@ module _ (vs l : List ℕ) where
   enough : ¬ (length vs ≡ 0) → length vs ≤ 16 → miscounted vs ≡ false
   unfolding miscounted
   enough h k = ap not (among-in 16 (length vs) (omega arith) k)
--- {end}
 
 none-requires : tie.Need-none-requires
 none-requires c κs = search needs

@@ -1,19 +1,12 @@
 -- `Process::course_e` meets its contract: idle, or the event. Assumes nothing.
+use Rattle.rules.specs.declared.step.Course.the-variants.{Takes}
+use Prim.Native.Nat.{ℕ}
 use Rattle.rules.proofs.StepLaws.{idle-yes, idle-no}
-use Rattle.rules.specs.Events.{onE}
-use Rattle.rules.specs.Store.{proposerOf, valueOf}
-use mathlib.Core.Path.{sym, _∙_}
+use Rattle.rules.specs.Events.{onE, cutIf}
+use mathlib.Core.Path.{sym, _∙_, ap, ap₂}
 use borrow.Author.Needs.{needs}
 use Rattle.rules.proofs.process.Process.course_e.Statement.{statement}
 use Rattle.rules.proofs.process.Process.course_e.Tie as tie
-use Rattle.rules.proofs.process.Process.course_e.Reads as reads
-use Rattle.rules.proofs.process.Process.course_e.Lts as lts
-use Rattle.rules.proofs.process.Next.cut_if.Reads as cut-if-reads
-use Rattle.rules.proofs.process.Process.idle_e.Reads as idle-e-reads
-use Rattle.rules.proofs.process.Process.idles.Reads as idles-reads
-use Rattle.rules.proofs.process.Process.on_e.Reads as on-e-reads
-use Rattle.rules.proofs.store.Store.proposer_of.Reads as proposer-of-reads
-use Rattle.rules.proofs.store.Store.value_of.Reads as value-of-reads
 
 idle-e-requires : tie.Need-idle-e-requires
 idle-e-requires c κs = search needs
@@ -39,7 +32,8 @@ cut-if-requires c κs = search needs
 returns-2 : tie.Need-returns-2
 returns-2 c =
     let a = c .before .before .before .before .before .before .args in
-    cc (idle-no (a .cut) (a .i) (a .self) (onE (a .n) (a .i) (a .sender) (a .round) (proposerOf (a .entry)) (valueOf (a .entry)) (a .self)) (sym (c .before .before .before .before .before .idle-e .ensures) ∙ c .before .before .before .before .if1 .left))
+    let x = c .before .on-e .ensures ∙ ap₂ (λ (q v : ℕ). onE (a .n) (a .i) (a .sender) (a .round) q v (a .self)) (c .before .before .before .proposer-of .ensures) (c .before .before .value-of .ensures) in
+    ap (Takes (a .i)) (c .cut-if .ensures ∙ ap (cutIf (a .cut)) x) ∙ idle-no (a .cut) (a .i) (a .self) _ (sym (c .before .before .before .before .before .idle-e .ensures) ∙ c .before .before .before .before .if1 .left)
 
 pub course-e-spec : {M : Type 1} → statement M
 course-e-spec =

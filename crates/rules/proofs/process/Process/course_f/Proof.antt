@@ -1,25 +1,16 @@
 -- `Process::course_f` meets its contract: idle, past the last round, or the event. Assumes nothing.
 use Rattle.rules.proofs.StepLaws.{past-idle, past-yes, past-no}
 use Rattle.rules.specs.Events.{onF, cutIf}
-use Rattle.rules.specs.Store.{proposerOf, valueOf}
 use Rattle.rules.specs.Limits.{lastRound}
 use Rattle.rules.specs.declared.step.Course.the-variants.{Takes}
 use Rattle.rules.specs.declared.process.Next.{Next}
 use borrow.Author.Tests.{lt-ltb, le-ltb}
 use lib.Dec.{ltb}
 use Prim.Native.Nat.{ℕ}
-use mathlib.Core.Path.{_≡_, ap, ap₂, sym, _∙_}
+use mathlib.Core.Path.{ap, ap₂, sym, _∙_}
 use borrow.Author.Needs.{needs}
 use Rattle.rules.proofs.process.Process.course_f.Statement.{statement}
 use Rattle.rules.proofs.process.Process.course_f.Tie as tie
-use Rattle.rules.proofs.process.Process.course_f.Reads as reads
-use Rattle.rules.proofs.process.Process.course_f.Lts as lts
-use Rattle.rules.proofs.process.Next.cut_if.Reads as cut-if-reads
-use Rattle.rules.proofs.process.Process.idle_f.Reads as idle-f-reads
-use Rattle.rules.proofs.process.Process.idles.Reads as idles-reads
-use Rattle.rules.proofs.process.Process.on_f.Reads as on-f-reads
-use Rattle.rules.proofs.store.Store.proposer_of.Reads as proposer-of-reads
-use Rattle.rules.proofs.store.Store.value_of.Reads as value-of-reads
 
 idle-f-requires : tie.Need-idle-f-requires
 idle-f-requires c κs = search needs
@@ -42,7 +33,7 @@ on-f-requires c κs = search needs
 returns-2 : tie.Need-returns-2
 returns-2 c =
     let a = c .before .before .before .before .before .before .before .args in
-    let e : c .before .before .on-f .result ≡ onF (a .n) (a .i) (a .sender) (a .round) (proposerOf (a .entry)) (valueOf (a .entry)) (a .self) = cc in
+    let e = c .before .before .on-f .ensures ∙ ap₂ (λ (q v : ℕ). onF (a .n) (a .i) (a .sender) (a .round) q v (a .self)) (c .before .before .before .before .proposer-of .ensures) (c .before .before .before .value-of .ensures) in
     past-yes _ _ _ _ (sym (c .before .before .before .before .before .before .idle-f .ensures) ∙ c .before .before .before .before .before .if1 .left) (ap (λ (x : Next). ltb lastRound (x .process .round)) (sym e) ∙ lt-ltb _ _ (c .if2 .taken))
 
 cut-if-requires : tie.Need-cut-if-requires
@@ -51,7 +42,7 @@ cut-if-requires c κs = search needs
 returns-3 : tie.Need-returns-3
 returns-3 c =
     let a = c .before .before .before .before .before .before .before .before .args in
-    let e : c .before .before .before .on-f .result ≡ onF (a .n) (a .i) (a .sender) (a .round) (proposerOf (a .entry)) (valueOf (a .entry)) (a .self) = cc in
+    let e = c .before .before .before .on-f .ensures ∙ ap₂ (λ (q v : ℕ). onF (a .n) (a .i) (a .sender) (a .round) q v (a .self)) (c .before .before .before .before .before .proposer-of .ensures) (c .before .before .before .before .value-of .ensures) in
     ap (Takes (a .i)) (c .cut-if .ensures ∙ ap (cutIf (a .cut)) e) ∙ past-no _ _ _ _ (sym (c .before .before .before .before .before .before .before .idle-f .ensures) ∙ c .before .before .before .before .before .before .if1 .left) (ap (λ (x : Next). ltb lastRound (x .process .round)) (sym e) ∙ le-ltb _ _ (c .before .if2 .left))
 
 pub course-f-spec : {M : Type 1} → statement M

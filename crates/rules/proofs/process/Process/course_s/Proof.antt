@@ -1,16 +1,11 @@
 -- `Process::course_s` meets its contract: idle, or the event. Assumes nothing.
+use Rattle.rules.specs.declared.step.Course.the-variants.{Takes}
 use Rattle.rules.proofs.StepLaws.{idle-yes, idle-no}
-use Rattle.rules.specs.Events.{onS}
-use mathlib.Core.Path.{sym, _∙_}
+use Rattle.rules.specs.Events.{cutIf}
+use mathlib.Core.Path.{sym, _∙_, ap}
 use borrow.Author.Needs.{needs}
 use Rattle.rules.proofs.process.Process.course_s.Statement.{statement}
 use Rattle.rules.proofs.process.Process.course_s.Tie as tie
-use Rattle.rules.proofs.process.Process.course_s.Reads as reads
-use Rattle.rules.proofs.process.Process.course_s.Lts as lts
-use Rattle.rules.proofs.process.Next.cut_if.Reads as cut-if-reads
-use Rattle.rules.proofs.process.Process.idle_s.Reads as idle-s-reads
-use Rattle.rules.proofs.process.Process.idles.Reads as idles-reads
-use Rattle.rules.proofs.process.Process.on_s.Reads as on-s-reads
 
 idle-s-requires : tie.Need-idle-s-requires
 idle-s-requires c κs = search needs
@@ -30,7 +25,7 @@ cut-if-requires c κs = search needs
 returns-2 : tie.Need-returns-2
 returns-2 c =
     let a = c .before .before .before .before .args in
-    cc (idle-no (a .cut) (a .i) (a .self) (onS (a .n) (a .sender) (a .self)) (sym (c .before .before .before .idle-s .ensures) ∙ c .before .before .if1 .left))
+    ap (Takes (a .i)) (c .cut-if .ensures ∙ ap (cutIf (a .cut)) (c .before .on-s .ensures)) ∙ idle-no (a .cut) (a .i) (a .self) _ (sym (c .before .before .before .idle-s .ensures) ∙ c .before .before .if1 .left)
 
 pub course-s-spec : {M : Type 1} → statement M
 course-s-spec =

@@ -1,14 +1,11 @@
 -- `Process::course_suspect` meets its contract: possible, or refused. Assumes nothing.
+use Rattle.rules.specs.declared.step.Course.the-variants.{Takes}
+use Rattle.rules.specs.Events.{cutIf}
 use Rattle.rules.proofs.StepLaws.{possible-yes, possible-no}
-use mathlib.Core.Path.{sym, _∙_}
+use mathlib.Core.Path.{sym, _∙_, ap}
 use borrow.Author.Needs.{needs}
 use Rattle.rules.proofs.process.Process.course_suspect.Statement.{statement}
 use Rattle.rules.proofs.process.Process.course_suspect.Tie as tie
-use Rattle.rules.proofs.process.Process.course_suspect.Reads as reads
-use Rattle.rules.proofs.process.Process.course_suspect.Lts as lts
-use Rattle.rules.proofs.process.Next.cut_if.Reads as cut-if-reads
-use Rattle.rules.proofs.process.Process.may_suspect.Reads as may-suspect-reads
-use Rattle.rules.proofs.process.Process.on_suspect.Reads as on-suspect-reads
 
 may-suspect-requires : tie.Need-may-suspect-requires
 may-suspect-requires c κs = search needs
@@ -22,7 +19,7 @@ cut-if-requires c κs = search needs
 returns : tie.Need-returns
 returns c =
     let a = c .before .before .before .before .args in
-    cc (possible-yes (a .cut) (a .i) (a .self) (sym (c .before .before .before .may-suspect .ensures) ∙ c .before .before .if1 .taken))
+    ap (Takes (a .i)) (c .cut-if .ensures ∙ ap (cutIf (a .cut)) (c .before .on-suspect .ensures)) ∙ possible-yes (a .cut) (a .i) (a .self) (sym (c .before .before .before .may-suspect .ensures) ∙ c .before .before .if1 .taken)
 
 returns-2 : tie.Need-returns-2
 returns-2 c = possible-no _ _ _ (sym (c .before .may-suspect .ensures) ∙ c .if1 .left)

@@ -1,13 +1,8 @@
 -- `Process::idles` meets its contract: the cut picks the case. Assumes nothing.
 use Rattle.rules.specs.Step.{idles}
-use Rattle.rules.specs.declared.step.Course.the-variants.{Takes}
-use mathlib.Core.Path.{ap, sym, _∙_}
 use borrow.Author.Needs.{needs}
 use Rattle.rules.proofs.process.Process.idles.Statement.{statement}
 use Rattle.rules.proofs.process.Process.idles.Tie as tie
-use Rattle.rules.proofs.process.Process.idles.Reads as reads
-use Rattle.rules.proofs.process.Process.idles.Lts as lts
-use Rattle.rules.proofs.process.Process.on_crash.Reads as on-crash-reads
 
 on-crash-requires : tie.Need-on-crash-requires
 on-crash-requires c κs = search needs

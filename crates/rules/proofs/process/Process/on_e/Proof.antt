@@ -1,6 +1,6 @@
 -- `Process::on_e` meets its contract: it takes the stages of the definition, in their order. Assumes nothing.
 use borrow.Author.Needs.{needs}
-use Rattle.rules.specs.Events.{onE}
+use Rattle.rules.proofs.ProcessLaws.{stages-E}
 use Rattle.rules.proofs.process.Process.on_e.Statement.{statement}
 use Rattle.rules.proofs.process.Process.on_e.Tie as tie
 
@@ -17,8 +17,8 @@ decides-at-requires : tie.Need-decides-at-requires
 decides-at-requires c κs = search needs
 
 returns : tie.Need-returns
-unfolding onE
-returns c = cc
+returns c =
+    stages-E _ _ _ _ _ _ _ (c .before .before .before .jumps .ensures) (c .before .before .relays .ensures) (c .before .joins .ensures) (c .decides-at .ensures)
 
 pub on-e-spec : {M : Type 1} → statement M
 on-e-spec =

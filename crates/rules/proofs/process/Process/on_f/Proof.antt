@@ -1,8 +1,7 @@
 -- `Process::on_f` meets its contract: it takes the stages of the definition, in their order, and none before the last leaves the rounds 0 to 63. Assumes nothing.
-use mathlib.Core.Path.{_≡_}
 use borrow.Author.Needs.{needs}
-use Rattle.rules.specs.Events.{onF, jumps, toPhase2, adopts, joinsEstimates, changed}
-use Rattle.rules.proofs.ProcessLaws.{f-round}
+use Rattle.rules.specs.Events.{jumps, adopts}
+use Rattle.rules.proofs.ProcessLaws.{f-round, joined-F, stages-F}
 use Rattle.rules.proofs.process.Process.on_f.Statement.{statement}
 use Rattle.rules.proofs.process.Process.on_f.Tie as tie
 
@@ -18,20 +17,17 @@ adopts-requires c κs = search needs
 joins-requires : tie.Need-joins-requires
 joins-requires c κs = search needs
 
--- the record after the join, where the last stage begins
-joined : (c : tie.After-joins) → let a = c .before .before .before .before .args in
-    c .joins .result ≡ changed (joinsEstimates (a .sender)) (adopts (a .n) (a .proposer) (a .value) (toPhase2 (jumps (a .round) (a .proposer) (a .value) (a .self))))
-joined c = cc
-
 enters-next-at-requires : tie.Need-enters-next-at-requires
 enters-next-at-requires c κs =
     let a = c .before .before .before .before .args in
     let p = c .before .before .before .before .pre in
-    (p .0, rw (joined c) (f-round (a .n) (a .sender) (a .round) (a .proposer) (a .value) (a .self) (p .3) (p .4)))
+    let e = joined-F (a .n) (a .i) (a .sender) _ _ _ _ (c .before .before .before .jumps .ensures) (c .before .before .to-phase-2 .ensures) (c .before .adopts .ensures) (c .joins .ensures) in
+    (p .0, rw e (f-round (a .n) (a .sender) (a .round) (a .proposer) (a .value) (a .self) (p .3) (p .4)))
 
 returns : tie.Need-returns
-unfolding onF
-returns c = cc (joined (c .before))
+returns c =
+    stages-F _ _ _ _ _ _ _ (c .before .before .before .before .jumps .ensures) (c .before .before .before .to-phase-2 .ensures) (c .before .before .adopts .ensures) (c .before .joins .ensures)
+    (c .enters-next-at .ensures)
 
 pub on-f-spec : {M : Type 1} → statement M
 on-f-spec =

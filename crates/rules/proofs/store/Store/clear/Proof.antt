@@ -9,8 +9,6 @@ use mathlib.Core.List.{List}
 use mathlib.Core.Path.{_≡_, refl, ap, _∙_}
 use Rattle.rules.proofs.store.Store.clear.Statement.{statement}
 use Rattle.rules.proofs.store.Store.clear.Tie as tie
-use Rattle.rules.proofs.store.Store.clear.Reads as reads
-use Rattle.rules.proofs.store.Store.clear.Lts as lts
 
 abbrev Inv-loop : tie.InvT-loop
 Inv-loop store₀ at₀ store at = (at ≤ storeLength) × (storeLength ≤ length store₀) × (length store ≡ length store₀) × (store ≡ cleared at store₀)

@@ -1,25 +1,16 @@
 -- `Store::hand_over` meets its contract: each kind of message is written at its place, with its entry. Assumes nothing.
-use Rattle.rules.specs.Store.{slot, kindE, messageRound, handOver, turned, unsentBit, placeOf, entryFor}
-use Rattle.rules.specs.Limits.{lastRound, storeLength}
-use Rattle.rules.specs.declared.process.Message.the-variants.{Nothing, E, S, F, Decision}
+use Rattle.rules.specs.Store.{slot, messageRound, handOver, turned, unsentBit, placeOf, entryFor}
 use Rattle.rules.specs.declared.process.Message.{Message}
-use lib.ListN.{length, getD, set}
+use lib.ListN.{getD, set}
 use lib.Dec.{eqb}
 use native.Mathlib.Omega.{arith}
-use Prim.Native.Nat.{ℕ, _≤_, _<_}
+use Prim.Native.Nat.{ℕ}
 use mathlib.Core.List.{List}
-use mathlib.Core.Path.{_≡_, refl, sym, ap, _∙_}
+use mathlib.Core.Path.{_≡_, ap, _∙_}
 use borrow.Author.Needs.{needs}
 use Rattle.rules.proofs.store.Store.hand_over.Statement.{statement}
 use Rattle.rules.proofs.store.Store.hand_over.Tie as tie
-use Rattle.rules.proofs.store.Store.hand_over.Reads as reads
-use Rattle.rules.proofs.store.Store.hand_over.Lts as lts
-use Rattle.rules.proofs.store.Store.decision_slot.Reads as decision-slot-reads
-use Rattle.rules.proofs.store.Store.entry_of.Reads as entry-of-reads
-use Rattle.rules.proofs.store.Store.slot.Reads as slot-reads
-use Rattle.rules.proofs.store.Store.write.Reads as write-reads
 
--- {helpers}
 -- a write at a message's place of its entry hands the message over
 module _ (i : ℕ) (l : List ℕ) where
   wrote : (m : Message) {last : List ℕ} {sent at e : ℕ}
@@ -30,9 +21,6 @@ module _ (i : ℕ) (l : List ℕ) where
       → (last ≡ set l at e) × (sent ≡ unsentBit (eqb (getD l at 0) 0))
       → (last ≡ handOver i m l) × (sent ≡ turned i m l)
   wrote m h t a b w = (w .0 ∙ rw (h, a, b), w .1 ∙ rw (t, a))
--- {end}
-
-
 
 enum-told : tie.Need-enum-told
 enum-told c = search needs

@@ -5,8 +5,6 @@ use mathlib.Core.Path.{refl, sym, ap}
 use borrow.Author.Needs.{needs}
 use Rattle.rules.proofs.store.Store.write.Statement.{statement}
 use Rattle.rules.proofs.store.Store.write.Tie as tie
-use Rattle.rules.proofs.store.Store.write.Reads as reads
-use Rattle.rules.proofs.store.Store.write.Lts as lts
 
 mul-old : tie.Need-mul-old
 mul-old c = search needs
