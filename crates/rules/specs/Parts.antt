@@ -11,6 +11,7 @@ use Rattle.rules.specs.declared.process.Next.{Next}
 use Rattle.rules.specs.declared.step.Course.{Course}
 use Rattle.rules.specs.declared.step.Course.the-variants.{Idles, Refuses, Takes}
 use Rattle.rules.specs.Limits.{greatestSize, lastRound, storeLength}
+use Rattle.rules.specs.Records.{third}
 use Rattle.rules.specs.Store.{proposerOf, messageRound}
 use Rattle.rules.specs.Events.{onSuspect, cutIf}
 use Rattle.rules.specs.Refusals.{row, among, damaged}
@@ -18,7 +19,7 @@ use Rattle.rules.specs.Step.{idles}
 
 -- process i is up, read off the list of flags
 abbrev pub upIn : List Bool → ℕ → Bool
-upIn flags i = getD flags (32 + (i - 1)) false
+upIn flags i = getD flags (third + (i - 1)) false
 
 -- the table's rows 3 and 5 for a step of one process
 unfoldable pub ownRows : ℕ → Bool → ℕ → ℕ

@@ -4,7 +4,7 @@
 use mathlib.Core.Path.{_≡_}
 use mathlib.Core.Bool.{Bool, true, false, _&&_}
 use mathlib.Core.List.{List}
-use Prim.Native.Nat.{ℕ, _+_, _-_}
+use Prim.Native.Nat.{ℕ, _+_, _-_, _*_}
 use lib.Dec.{leb}
 use lib.ListN.{length, getD, set, replicate}
 use Rattle.rules.specs.declared.group.Group.{Group}
@@ -39,29 +39,36 @@ stored p =
 abbrev pub groupOf : ℕ → List ℕ → List ℕ → List ℕ → List Bool → Group
 groupOf n words halves bytes flags = record { n = n; words = words; halves = halves; bytes = bytes; flags = flags }
 
+-- where the second and the third column of a list begin
+abbrev pub second : ℕ
+second = greatestSize
+
+abbrev pub third : ℕ
+third = 2 * greatestSize
+
 -- process i of g
 unfoldable pub processAt : Group → ℕ → Process
 processAt g i =
     record {
       first = getD (g .words) (i - 1) 0;
       round = getD (g .bytes) (i - 1) 0;
-      phase = getD (g .bytes) (16 + (i - 1)) 0;
-      proposer = getD (g .bytes) (32 + (i - 1)) 0;
-      value = getD (g .words) (16 + (i - 1)) 0;
+      phase = getD (g .bytes) (second + (i - 1)) 0;
+      proposer = getD (g .bytes) (third + (i - 1)) 0;
+      value = getD (g .words) (second + (i - 1)) 0;
       marked = getD (g .flags) (i - 1) false;
-      decided = getD (g .flags) (16 + (i - 1)) false;
-      decision = getD (g .words) (32 + (i - 1)) 0;
-      up = getD (g .flags) (32 + (i - 1)) false;
+      decided = getD (g .flags) (second + (i - 1)) false;
+      decision = getD (g .words) (third + (i - 1)) 0;
+      up = getD (g .flags) (third + (i - 1)) false;
       estimates = getD (g .halves) (i - 1) 0;
-      suspicions = getD (g .halves) (16 + (i - 1)) 0;
+      suspicions = getD (g .halves) (second + (i - 1)) 0;
     }
 
 -- a list with one entry of each of its two, or three, columns of 16 replaced at i
 abbrev pub put₂ : {A : Type 0} → List A → ℕ → A → A → List A
-put₂ l i a b = set (set l (i - 1) a) (16 + (i - 1)) b
+put₂ l i a b = set (set l (i - 1) a) (second + (i - 1)) b
 
 abbrev pub put₃ : {A : Type 0} → List A → ℕ → A → A → A → List A
-put₃ l i a b c = set (put₂ l i a b) (32 + (i - 1)) c
+put₃ l i a b c = set (put₂ l i a b) (third + (i - 1)) c
 
 -- g with p as process i
 unfoldable pub withProcess : Group → ℕ → Process → Group
@@ -74,10 +81,10 @@ withProcess g i p =
 
 -- every list has its whole columns: so has every group that the code holds
 pub record Sized (g : Group) : Type 0 where
-  pub words : length (g .words) ≡ 48
-  pub halves : length (g .halves) ≡ 32
-  pub bytes : length (g .bytes) ≡ 48
-  pub flags : length (g .flags) ≡ 48
+  pub words : length (g .words) ≡ 3 * greatestSize
+  pub halves : length (g .halves) ≡ 2 * greatestSize
+  pub bytes : length (g .bytes) ≡ 3 * greatestSize
+  pub flags : length (g .flags) ≡ 3 * greatestSize
 
 -- "Records above n, and all records of a group of size 0, have every number 0, no mark, no decision, empty tallies and are down"
 unfoldable pub blank : Process
@@ -106,4 +113,4 @@ recordOf g i = recordIf (leb 1 i && leb i greatestSize) g i
 
 -- a group of size n with every record blank
 unfoldable pub blankGroup : ℕ → Group
-blankGroup n = groupOf n (replicate 48 0) (replicate 32 0) (replicate 48 0) (replicate 48 false)
+blankGroup n = groupOf n (replicate (3 * greatestSize) 0) (replicate (2 * greatestSize) 0) (replicate (3 * greatestSize) 0) (replicate (3 * greatestSize) false)

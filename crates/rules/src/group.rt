@@ -19,67 +19,75 @@ use crate::step::Taken;
 use crate::store::Store;
 use crate::tally;
 
+pub type Words = [u32; 3 * Group::GREATEST];
+
+pub type Halves = [u16; 2 * Group::GREATEST];
+
+pub type Bytes = [u8; 3 * Group::GREATEST];
+
+pub type Flags = [bool; 3 * Group::GREATEST];
+
 // n processes; the record of process i stands at i - 1 of each column of 16. In `words` the columns are first values, estimates' values and decisions;
 // in `halves` estimates heard and suspicions heard; in `bytes` rounds, phases and estimates' proposers; in `flags` marks, whether decided, and whether up.
 pub struct Group {
     pub n: u8,
-    pub words: [u32; 3 * Group::GREATEST],
-    pub halves: [u16; 2 * Group::GREATEST],
-    pub bytes: [u8; 3 * Group::GREATEST],
-    pub flags: [bool; 3 * Group::GREATEST],
+    pub words: Words,
+    pub halves: Halves,
+    pub bytes: Bytes,
+    pub flags: Flags,
 }
 
 // The record of process i.
 pub(crate) fn take_out(
-    words: &[u32; 48],
-    halves: &[u16; 32],
-    bytes: &[u8; 48],
-    flags: &[bool; 48],
+    words: &Words,
+    halves: &Halves,
+    bytes: &Bytes,
+    flags: &Flags,
     i: u8,
 ) -> Process
-    requires { ⌜ (1 ≤ i) × (i ≤ 16) ⌝ }
+    requires { ⌜ (1 ≤ i) × (i ≤ limits.greatestSize) ⌝ }
     ensures { λ r. ⌜ ((n : ℕ) → r ≡ records.processAt (records.groupOf n (now (words .entry)) (now (halves .entry)) (now (bytes .entry)) (now (flags .entry))) i) ⌝ }
 {
     let at = (i - 1) as usize;
     Process {
         first: words[at],
         round: bytes[at],
-        phase: bytes[16 + at],
-        proposer: bytes[32 + at],
-        value: words[16 + at],
+        phase: bytes[Group::SECOND + at],
+        proposer: bytes[Group::THIRD + at],
+        value: words[Group::SECOND + at],
         marked: flags[at],
-        decided: flags[16 + at],
-        decision: words[32 + at],
-        up: flags[32 + at],
+        decided: flags[Group::SECOND + at],
+        decision: words[Group::THIRD + at],
+        up: flags[Group::THIRD + at],
         estimates: halves[at],
-        suspicions: halves[16 + at],
+        suspicions: halves[Group::SECOND + at],
     }
 }
 
 // Puts p back as the record of process i.
 pub(crate) fn put_back(
-    words: &mut [u32; 48],
-    halves: &mut [u16; 32],
-    bytes: &mut [u8; 48],
-    flags: &mut [bool; 48],
+    words: &mut Words,
+    halves: &mut Halves,
+    bytes: &mut Bytes,
+    flags: &mut Flags,
     i: u8,
     p: Process,
 )
-    requires { ⌜ (1 ≤ i) × (i ≤ 16) ⌝ }
+    requires { ⌜ (1 ≤ i) × (i ≤ limits.greatestSize) ⌝ }
     ensures { λ r. ⌜ ((n : ℕ) → records.groupOf n (now (words .exit)) (now (halves .exit)) (now (bytes .exit)) (now (flags .exit)) ≡ records.withProcess (records.groupOf n (now (words .entry)) (now (halves .entry)) (now (bytes .entry)) (now (flags .entry))) i p) ⌝ }
 {
     let at = (i - 1) as usize;
     words[at] = p.first;
-    words[16 + at] = p.value;
-    words[32 + at] = p.decision;
+    words[Group::SECOND + at] = p.value;
+    words[Group::THIRD + at] = p.decision;
     halves[at] = p.estimates;
-    halves[16 + at] = p.suspicions;
+    halves[Group::SECOND + at] = p.suspicions;
     bytes[at] = p.round;
-    bytes[16 + at] = p.phase;
-    bytes[32 + at] = p.proposer;
+    bytes[Group::SECOND + at] = p.phase;
+    bytes[Group::THIRD + at] = p.proposer;
     flags[at] = p.marked;
-    flags[16 + at] = p.decided;
-    flags[32 + at] = p.up;
+    flags[Group::SECOND + at] = p.decided;
+    flags[Group::THIRD + at] = p.up;
 }
 
 // Whether m is one of 1..n.
@@ -98,7 +106,7 @@ pub(crate) fn is_phase(phase: u8) -> bool
 
 // Whether the record of a process of 1..n has no damage.
 pub(crate) fn whole(n: u8, p: Process) -> bool
-    requires { ⌜ n ≤ 16 ⌝ }
+    requires { ⌜ n ≤ limits.greatestSize ⌝ }
     ensures { λ r. ⌜ r ≡ refusals.whole n p ⌝ }
 {
     if Process::LAST_ROUND < p.round {
@@ -117,13 +125,7 @@ pub(crate) fn whole(n: u8, p: Process) -> bool
 }
 
 // Whether a group is damaged: its size is not 1 to 16, or a record of its processes has damage.
-pub(crate) fn damaged(
-    n: u8,
-    words: &[u32; 48],
-    halves: &[u16; 32],
-    bytes: &[u8; 48],
-    flags: &[bool; 48],
-) -> bool
+pub(crate) fn damaged(n: u8, words: &Words, halves: &Halves, bytes: &Bytes, flags: &Flags) -> bool
     ensures { λ r. ⌜ r ≡ refusals.damaged (records.groupOf n (now (words .entry)) (now (halves .entry)) (now (bytes .entry)) (now (flags .entry))) ⌝ }
 {
     if n == 0 {
@@ -146,12 +148,12 @@ pub(crate) fn damaged(
 // Starts the first processes of a group with the values, one record for each.
 pub(crate) fn fill(
     values: &[u32],
-    words: &mut [u32; 48],
-    halves: &mut [u16; 32],
-    bytes: &mut [u8; 48],
-    flags: &mut [bool; 48],
+    words: &mut Words,
+    halves: &mut Halves,
+    bytes: &mut Bytes,
+    flags: &mut Flags,
 )
-    requires { ⌜ (length (now values) ≤ 16) × (records.groupOf (length (now values)) (now words) (now halves) (now bytes) (now flags) ≡ records.blankGroup (length (now values))) ⌝ }
+    requires { ⌜ (length (now values) ≤ limits.greatestSize) × (records.groupOf (length (now values)) (now words) (now halves) (now bytes) (now flags) ≡ records.blankGroup (length (now values))) ⌝ }
     ensures { λ r. ⌜ records.groupOf (length (now (values .entry))) (now (words .exit)) (now (halves .exit)) (now (bytes .exit)) (now (flags .exit)) ≡ starts.startedTo (now (values .entry)) (length (now (values .entry))) ⌝ }
 {
     let mut k: usize = 0;
@@ -166,6 +168,11 @@ impl Group {
     // The most processes that a group has.
     pub const GREATEST: usize = 16;
 
+    // Where the second and the third column of an array begin.
+    pub(crate) const SECOND: usize = Group::GREATEST;
+
+    pub(crate) const THIRD: usize = 2 * Group::GREATEST;
+
     pub fn greatest() -> usize
         ensures { λ r. ⌜ r ≡ limits.greatestSize ⌝ }
     {
@@ -173,15 +180,15 @@ impl Group {
     }
 
     // A group of size 0.
-    pub fn none() -> Group
+    pub(crate) fn none() -> Group
         ensures { λ r. ⌜ r ≡ records.blankGroup 0 ⌝ }
     {
         Group {
             n: 0,
-            words: [0; 48],
-            halves: [0; 32],
-            bytes: [0; 48],
-            flags: [false; 48],
+            words: [0; 3 * Group::GREATEST],
+            halves: [0; 2 * Group::GREATEST],
+            bytes: [0; 3 * Group::GREATEST],
+            flags: [false; 3 * Group::GREATEST],
         }
     }
 
@@ -189,7 +196,7 @@ impl Group {
     pub fn process(self, i: u32) -> Process
         ensures { λ r. ⌜ r ≡ records.recordOf self i ⌝ }
     {
-        if !among(16, i) {
+        if !among(Group::GREATEST as u8, i) {
             return Process::blank();
         }
         let words = self.words;
@@ -222,10 +229,10 @@ impl Group {
                 answer: Answer::Refused(1),
             };
         }
-        let mut words = [0u32; 48];
-        let mut halves = [0u16; 32];
-        let mut bytes = [0u8; 48];
-        let mut flags = [false; 48];
+        let mut words = [0u32; 3 * Group::GREATEST];
+        let mut halves = [0u16; 2 * Group::GREATEST];
+        let mut bytes = [0u8; 3 * Group::GREATEST];
+        let mut flags = [false; 3 * Group::GREATEST];
         fill(values, &mut words, &mut halves, &mut bytes, &mut flags);
         begin(values[0], store);
         let group = Group {

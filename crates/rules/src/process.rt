@@ -54,6 +54,12 @@ impl Process {
     // The last round that a process can be in.
     pub const LAST_ROUND: u8 = 63;
 
+    pub fn last_round() -> u8
+        ensures { λ r. ⌜ r ≡ limits.lastRound ⌝ }
+    {
+        Process::LAST_ROUND
+    }
+
     // The record of process i at a start.
     pub(crate) fn fresh(i: u8, value: u32) -> Process
         ensures { λ r. ⌜ r ≡ starts.fresh i value ⌝ }
@@ -206,7 +212,7 @@ impl Process {
 
     // An E of a round from the sender, to process i of n.
     pub(crate) fn on_e(self, n: u8, i: u8, sender: u8, round: u8, proposer: u8, value: u32) -> Next
-        requires { ⌜ (1 ≤ n) × (1 ≤ sender) × (sender ≤ 16) ⌝ }
+        requires { ⌜ (1 ≤ n) × (1 ≤ sender) × (sender ≤ limits.greatestSize) ⌝ }
         ensures { λ r. ⌜ r ≡ events.onE n i sender round proposer value self ⌝ }
     {
         let jumped = self.jumps(round, proposer, value);
@@ -216,7 +222,7 @@ impl Process {
 
     // A suspicion of the process's round from the sender.
     pub(crate) fn on_s(mut self, n: u8, sender: u8) -> Next
-        requires { ⌜ (1 ≤ sender) × (sender ≤ 16) ⌝ }
+        requires { ⌜ (1 ≤ sender) × (sender ≤ limits.greatestSize) ⌝ }
         ensures { λ r. ⌜ r ≡ events.onS n sender self ⌝ }
     {
         let tally = tally::joined(self.suspicions, sender);
@@ -230,7 +236,7 @@ impl Process {
 
     // An F of a round from the sender, to process i of n.
     pub(crate) fn on_f(self, n: u8, i: u8, sender: u8, round: u8, proposer: u8, value: u32) -> Next
-        requires { ⌜ (1 ≤ n) × (1 ≤ sender) × (sender ≤ 16) × (self .round ≤ 63) × (round ≤ 63) ⌝ }
+        requires { ⌜ (1 ≤ n) × (1 ≤ sender) × (sender ≤ limits.greatestSize) × (self .round ≤ limits.lastRound) × (round ≤ limits.lastRound) ⌝ }
         ensures { λ r. ⌜ r ≡ events.onF n i sender round proposer value self ⌝ }
     {
         let moved = self.jumps(round, proposer, value).to_phase_2();
@@ -263,27 +269,33 @@ impl Process {
         }
     }
 
-    pub(crate) fn on_pause(mut self) -> Next
+    // Down, everything kept.
+    pub(crate) fn on_pause(self) -> Next
         ensures { λ r. ⌜ r ≡ events.onPause self ⌝ }
     {
-        self.up = false;
-        self.quiet()
+        let mut paused = self;
+        paused.up = false;
+        paused.quiet()
     }
 
-    pub(crate) fn on_crash(mut self) -> Next
+    // Down, both tallies emptied.
+    pub(crate) fn on_crash(self) -> Next
         ensures { λ r. ⌜ r ≡ events.onCrash self ⌝ }
     {
-        self.up = false;
-        self.estimates = 0;
-        self.suspicions = 0;
-        self.quiet()
+        let mut crashed = self;
+        crashed.up = false;
+        crashed.estimates = 0;
+        crashed.suspicions = 0;
+        crashed.quiet()
     }
 
-    pub(crate) fn on_recover(mut self) -> Next
+    // Up, nothing else.
+    pub(crate) fn on_recover(self) -> Next
         ensures { λ r. ⌜ r ≡ events.onRecover self ⌝ }
     {
-        self.up = true;
-        self.quiet()
+        let mut recovered = self;
+        recovered.up = true;
+        recovered.quiet()
     }
 
     // ---- what makes a delivery idle, and a suspicion possible
@@ -296,7 +308,7 @@ impl Process {
     }
 
     pub(crate) fn idle_e(self, sender: u8, round: u8) -> bool
-        requires { ⌜ (1 ≤ sender) × (sender ≤ 16) ⌝ }
+        requires { ⌜ (1 ≤ sender) × (sender ≤ limits.greatestSize) ⌝ }
         ensures { λ r. ⌜ r ≡ idleness.idleE self sender round ⌝ }
     {
         if self.past_for(round) {
@@ -315,7 +327,7 @@ impl Process {
     }
 
     pub(crate) fn idle_s(self, sender: u8, round: u8) -> bool
-        requires { ⌜ (1 ≤ sender) × (sender ≤ 16) ⌝ }
+        requires { ⌜ (1 ≤ sender) × (sender ≤ limits.greatestSize) ⌝ }
         ensures { λ r. ⌜ r ≡ idleness.idleS self sender round ⌝ }
     {
         if self.past_for(round) {
@@ -331,7 +343,7 @@ impl Process {
     }
 
     pub(crate) fn idle_f(self, sender: u8, round: u8) -> bool
-        requires { ⌜ (1 ≤ sender) × (sender ≤ 16) ⌝ }
+        requires { ⌜ (1 ≤ sender) × (sender ≤ limits.greatestSize) ⌝ }
         ensures { λ r. ⌜ r ≡ idleness.idleF self sender round ⌝ }
     {
         if self.past_for(round) {
@@ -362,7 +374,7 @@ impl Process {
 impl Next {
     // With the sender in the tally of estimates heard.
     pub(crate) fn joins(mut self, sender: u8) -> Next
-        requires { ⌜ (1 ≤ sender) × (sender ≤ 16) ⌝ }
+        requires { ⌜ (1 ≤ sender) × (sender ≤ limits.greatestSize) ⌝ }
         ensures { λ r. ⌜ r ≡ events.changed (events.joinsEstimates sender) self ⌝ }
     {
         let tally = tally::joined(self.process.estimates, sender);
@@ -409,7 +421,7 @@ impl Next {
 
     // At a majority of F heard: the next round, and the E of its coordinator.
     pub(crate) fn enters_next_at(self, n: u8, i: u8) -> Next
-        requires { ⌜ (1 ≤ n) × (self .process .round ≤ 63) ⌝ }
+        requires { ⌜ (1 ≤ n) × (self .process .round ≤ limits.lastRound) ⌝ }
         ensures { λ r. ⌜ r ≡ events.entersNextAt n i self ⌝ }
     {
         let process = self.process;

@@ -13,7 +13,11 @@ ghost use Rattle.rules.specs.Events as events;
 ghost use Rattle.rules.specs.Step as steps;
 ghost use Rattle.rules.specs.Parts as parts;
 use crate::group;
+use crate::group::Bytes;
+use crate::group::Flags;
 use crate::group::Group;
+use crate::group::Halves;
+use crate::group::Words;
 use crate::process::Next;
 use crate::process::Process;
 use crate::store::Store;
@@ -81,14 +85,14 @@ pub enum Course {
 // ---- refusals
 
 // Refusals 3 and 5 of a step of one process, or 0.
-pub(crate) fn own_refusal(n: u8, flags: &[bool; 48], process: u32) -> u8
-    requires { ⌜ n ≤ 16 ⌝ }
+pub(crate) fn own_refusal(n: u8, flags: &Flags, process: u32) -> u8
+    requires { ⌜ n ≤ limits.greatestSize ⌝ }
     ensures { λ r. ⌜ r ≡ parts.ownRows n (parts.upIn (now (flags .entry)) process) process ⌝ }
 {
     if !group::among(n, process) {
         return 3;
     }
-    if !flags[32 + (process as usize - 1)] {
+    if !flags[Group::THIRD + (process as usize - 1)] {
         return 5;
     }
     0
@@ -108,8 +112,8 @@ pub(crate) fn entry_refusal(n: u8, entry: u64) -> u8
 }
 
 // Refusals 3, 4 and 5 of a delivery, or 0. A decision has round 0 here.
-pub(crate) fn delivery_refusal(n: u8, flags: &[bool; 48], to: u32, from: u32, round: u32) -> u8
-    requires { ⌜ n ≤ 16 ⌝ }
+pub(crate) fn delivery_refusal(n: u8, flags: &Flags, to: u32, from: u32, round: u32) -> u8
+    requires { ⌜ n ≤ limits.greatestSize ⌝ }
     ensures { λ r. ⌜ r ≡ parts.deliveryRows n (parts.upIn (now (flags .entry)) to) to from round ⌝ }
 {
     if !group::among(n, to) {
@@ -121,7 +125,7 @@ pub(crate) fn delivery_refusal(n: u8, flags: &[bool; 48], to: u32, from: u32, ro
     if (Process::LAST_ROUND as u32) < round {
         return 4;
     }
-    if !flags[32 + (to as usize - 1)] {
+    if !flags[Group::THIRD + (to as usize - 1)] {
         return 5;
     }
     0
@@ -150,7 +154,7 @@ impl Process {
         entry: u64,
         cut: bool,
     ) -> Course
-        requires { ⌜ (1 ≤ n) × (1 ≤ sender) × (sender ≤ 16) × (stores.proposerOf entry ≤ 16) ⌝ }
+        requires { ⌜ (1 ≤ n) × (1 ≤ sender) × (sender ≤ limits.greatestSize) × (stores.proposerOf entry ≤ limits.greatestSize) ⌝ }
         ensures { λ r. ⌜ r ≡ steps.orIdle (idleness.idleE self sender round) cut i self (events.onE n i sender round (stores.proposerOf entry) (stores.valueOf entry) self) ⌝ }
     {
         if self.idle_e(sender, round) {
@@ -168,7 +172,7 @@ impl Process {
     }
 
     pub(crate) fn course_s(self, n: u8, i: u8, sender: u8, round: u8, cut: bool) -> Course
-        requires { ⌜ (1 ≤ sender) × (sender ≤ 16) ⌝ }
+        requires { ⌜ (1 ≤ sender) × (sender ≤ limits.greatestSize) ⌝ }
         ensures { λ r. ⌜ r ≡ steps.orIdle (idleness.idleS self sender round) cut i self (events.onS n sender self) ⌝ }
     {
         if self.idle_s(sender, round) {
@@ -188,7 +192,7 @@ impl Process {
         entry: u64,
         cut: bool,
     ) -> Course
-        requires { ⌜ (1 ≤ n) × (1 ≤ sender) × (sender ≤ 16) × (self .round ≤ 63) × (round ≤ 63) × (stores.proposerOf entry ≤ 16) ⌝ }
+        requires { ⌜ (1 ≤ n) × (1 ≤ sender) × (sender ≤ limits.greatestSize) × (self .round ≤ limits.lastRound) × (round ≤ limits.lastRound) × (stores.proposerOf entry ≤ limits.greatestSize) ⌝ }
         ensures { λ r. ⌜ r ≡ parts.orPast (idleness.idleF self sender round) cut i self (events.onF n i sender round (stores.proposerOf entry) (stores.valueOf entry) self) ⌝ }
     {
         if self.idle_f(sender, round) {
@@ -233,10 +237,10 @@ impl Process {
 
 pub(crate) fn on_e(
     n: u8,
-    words: &[u32; 48],
-    halves: &[u16; 32],
-    bytes: &[u8; 48],
-    flags: &[bool; 48],
+    words: &Words,
+    halves: &Halves,
+    bytes: &Bytes,
+    flags: &Flags,
     store: &[u64],
     to: u32,
     from: u32,
@@ -262,10 +266,10 @@ pub(crate) fn on_e(
 
 pub(crate) fn on_s(
     n: u8,
-    words: &[u32; 48],
-    halves: &[u16; 32],
-    bytes: &[u8; 48],
-    flags: &[bool; 48],
+    words: &Words,
+    halves: &Halves,
+    bytes: &Bytes,
+    flags: &Flags,
     store: &[u64],
     to: u32,
     from: u32,
@@ -291,10 +295,10 @@ pub(crate) fn on_s(
 
 pub(crate) fn on_f(
     n: u8,
-    words: &[u32; 48],
-    halves: &[u16; 32],
-    bytes: &[u8; 48],
-    flags: &[bool; 48],
+    words: &Words,
+    halves: &Halves,
+    bytes: &Bytes,
+    flags: &Flags,
     store: &[u64],
     to: u32,
     from: u32,
@@ -320,10 +324,10 @@ pub(crate) fn on_f(
 
 pub(crate) fn on_decision(
     n: u8,
-    words: &[u32; 48],
-    halves: &[u16; 32],
-    bytes: &[u8; 48],
-    flags: &[bool; 48],
+    words: &Words,
+    halves: &Halves,
+    bytes: &Bytes,
+    flags: &Flags,
     store: &[u64],
     to: u32,
     from: u32,
@@ -347,10 +351,10 @@ pub(crate) fn on_decision(
 
 pub(crate) fn on_suspect(
     n: u8,
-    words: &[u32; 48],
-    halves: &[u16; 32],
-    bytes: &[u8; 48],
-    flags: &[bool; 48],
+    words: &Words,
+    halves: &Halves,
+    bytes: &Bytes,
+    flags: &Flags,
     store: &[u64],
     process: u32,
     cut: bool,
@@ -368,10 +372,10 @@ pub(crate) fn on_suspect(
 
 pub(crate) fn on_pause(
     n: u8,
-    words: &[u32; 48],
-    halves: &[u16; 32],
-    bytes: &[u8; 48],
-    flags: &[bool; 48],
+    words: &Words,
+    halves: &Halves,
+    bytes: &Bytes,
+    flags: &Flags,
     store: &[u64],
     process: u32,
 ) -> Course
@@ -391,10 +395,10 @@ pub(crate) fn on_pause(
 
 pub(crate) fn on_crash(
     n: u8,
-    words: &[u32; 48],
-    halves: &[u16; 32],
-    bytes: &[u8; 48],
-    flags: &[bool; 48],
+    words: &Words,
+    halves: &Halves,
+    bytes: &Bytes,
+    flags: &Flags,
     store: &[u64],
     process: u32,
 ) -> Course
@@ -415,10 +419,10 @@ pub(crate) fn on_crash(
 // A process that is up is not recovered: it is refused.
 pub(crate) fn on_recover(
     n: u8,
-    words: &[u32; 48],
-    halves: &[u16; 32],
-    bytes: &[u8; 48],
-    flags: &[bool; 48],
+    words: &Words,
+    halves: &Halves,
+    bytes: &Bytes,
+    flags: &Flags,
     store: &[u64],
     process: u32,
 ) -> Course
@@ -438,10 +442,10 @@ pub(crate) fn on_recover(
 
 pub(crate) fn course_of(
     n: u8,
-    words: &[u32; 48],
-    halves: &[u16; 32],
-    bytes: &[u8; 48],
-    flags: &[bool; 48],
+    words: &Words,
+    halves: &Halves,
+    bytes: &Bytes,
+    flags: &Flags,
     store: &[u64],
     step: Step,
 ) -> Course
@@ -506,10 +510,10 @@ pub(crate) fn decides_now(before: bool, after: bool) -> bool
 // Process i takes the next record, and its messages are handed over.
 pub(crate) fn finish(
     n: u8,
-    words: &mut [u32; 48],
-    halves: &mut [u16; 32],
-    bytes: &mut [u8; 48],
-    flags: &mut [bool; 48],
+    words: &mut Words,
+    halves: &mut Halves,
+    bytes: &mut Bytes,
+    flags: &mut Flags,
     store: &mut [u64],
     i: u8,
     next: Next,
@@ -520,13 +524,14 @@ pub(crate) fn finish(
     let process = next.process;
     let first = next.first;
     let second = next.second;
-    let before = flags[16 + ((i - 1) as usize)];
+    let before = group::take_out(words, halves, bytes, flags, i);
     group::put_back(words, halves, bytes, flags, i, process);
     let sent = Store::hand_over(store, i, first);
     let again = Store::hand_over(store, i, second);
-    let decided = decides_now(before, process.decided);
+    let total = sent + again;
+    let decided = decides_now(before.decided, process.decided);
     Answer::Applied {
-        sent: sent + again,
+        sent: total,
         decided: decided,
     }
 }
@@ -534,10 +539,10 @@ pub(crate) fn finish(
 // One step of a group that is not damaged over a store that is not short.
 pub(crate) fn step_sound(
     n: u8,
-    words: &mut [u32; 48],
-    halves: &mut [u16; 32],
-    bytes: &mut [u8; 48],
-    flags: &mut [bool; 48],
+    words: &mut Words,
+    halves: &mut Halves,
+    bytes: &mut Bytes,
+    flags: &mut Flags,
     store: &mut [u64],
     step: Step,
 ) -> Answer
@@ -555,10 +560,10 @@ pub(crate) fn step_sound(
 // One step of any group over any store: what `Group::step` does, on the group's own arrays, lent.
 pub fn step_on(
     n: u8,
-    words: &mut [u32; 48],
-    halves: &mut [u16; 32],
-    bytes: &mut [u8; 48],
-    flags: &mut [bool; 48],
+    words: &mut Words,
+    halves: &mut Halves,
+    bytes: &mut Bytes,
+    flags: &mut Flags,
     store: &mut [u64],
     step: Step,
 ) -> Answer

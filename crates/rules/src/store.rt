@@ -30,7 +30,7 @@ impl Store {
 
     // Where the message of a round, a sender and a kind stands.
     pub(crate) fn slot(round: u8, sender: u8, kind: usize) -> usize
-        requires { ⌜ (1 ≤ sender) × (sender ≤ 16) × (kind ≤ 2) ⌝ }
+        requires { ⌜ (1 ≤ sender) × (sender ≤ limits.greatestSize) × (kind ≤ 2) ⌝ }
         ensures { λ r. ⌜ r ≡ stores.slot round sender kind ⌝ }
     {
         (round as usize * Group::GREATEST + (sender - 1) as usize) * 3 + kind
@@ -38,7 +38,7 @@ impl Store {
 
     // Where the decision of a sender stands.
     pub(crate) fn decision_slot(sender: u8) -> usize
-        requires { ⌜ (1 ≤ sender) × (sender ≤ 16) ⌝ }
+        requires { ⌜ (1 ≤ sender) × (sender ≤ limits.greatestSize) ⌝ }
         ensures { λ r. ⌜ r ≡ stores.decisionSlot sender ⌝ }
     {
         Store::LENGTH - Group::GREATEST + (sender - 1) as usize
@@ -53,7 +53,7 @@ impl Store {
 
     // The proposer of an entry that names one of 1..16, and the value of any entry.
     pub(crate) fn proposer_of(entry: u64) -> u8
-        requires { ⌜ stores.proposerOf entry ≤ 16 ⌝ }
+        requires { ⌜ stores.proposerOf entry ≤ limits.greatestSize ⌝ }
         ensures { λ r. ⌜ r ≡ stores.proposerOf entry ⌝ }
     {
         (entry / 4294967296) as u8
@@ -77,7 +77,7 @@ impl Store {
 
     // Process i hands a message over. Answers how many entries turn from 0.
     pub(crate) fn hand_over(store: &mut [u64], i: u8, message: Message) -> u8
-        requires { ⌜ (1 ≤ i) × (i ≤ 16) × (stores.messageRound message ≤ limits.lastRound) × (limits.storeLength ≤ length (now store)) ⌝ }
+        requires { ⌜ (1 ≤ i) × (i ≤ limits.greatestSize) × (stores.messageRound message ≤ limits.lastRound) × (limits.storeLength ≤ length (now store)) ⌝ }
         ensures { λ r. ⌜ (now (store .exit) ≡ stores.handOver i message (now (store .entry))) × (r ≡ stores.turned i message (now (store .entry))) ⌝ }
     {
         match message {

@@ -14,7 +14,7 @@ pub(crate) fn majority(n: u8) -> u8
 
 // The tally with the sender in it.
 pub(crate) fn joined(tally: u16, sender: u8) -> u16
-    requires { ⌜ (1 ≤ sender) × (sender ≤ 16) ⌝ }
+    requires { ⌜ (1 ≤ sender) × (sender ≤ limits.greatestSize) ⌝ }
     ensures { λ r. ⌜ r ≡ tallies.joined tally sender ⌝ }
 {
     tally | (1u16 << (sender - 1))
@@ -22,7 +22,7 @@ pub(crate) fn joined(tally: u16, sender: u8) -> u16
 
 // Whether the tally has the sender.
 pub(crate) fn holds(tally: u16, sender: u8) -> bool
-    requires { ⌜ (1 ≤ sender) × (sender ≤ 16) ⌝ }
+    requires { ⌜ (1 ≤ sender) × (sender ≤ limits.greatestSize) ⌝ }
     ensures { λ r. ⌜ r ≡ tallies.holds tally sender ⌝ }
 {
     (tally >> (sender - 1)) % 2 == 1
@@ -37,7 +37,7 @@ pub(crate) fn meets(tally: u16, n: u8) -> bool
 
 // Whether the tally has no sender above n.
 pub(crate) fn within(tally: u16, n: u8) -> bool
-    requires { ⌜ n ≤ 16 ⌝ }
+    requires { ⌜ n ≤ limits.greatestSize ⌝ }
     ensures { λ r. ⌜ r ≡ tallies.within tally n ⌝ }
 {
     (tally as u32) < (1u32 << n)

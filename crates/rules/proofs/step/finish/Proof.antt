@@ -2,23 +2,22 @@
 use Rattle.rules.proofs.CourseLaws.{turned-small, finishes}
 use Rattle.rules.specs.Step.{decidesNow}
 use Rattle.rules.specs.Answers.{said}
-use Rattle.rules.specs.Records.{processAt}
+use Rattle.rules.specs.declared.process.Process.{Process}
 use native.Mathlib.Omega.{arith}
+use mathlib.Core.Bool.{Bool, _&&_, not}
+use mathlib.Core.Path.{ap, _∙_}
 use borrow.Author.Needs.{needs}
 use Rattle.rules.proofs.step.finish.Statement.{statement}
 use Rattle.rules.proofs.step.finish.Tie as tie
+use Rattle.rules.proofs.step.finish.Reads as reads
+use Rattle.rules.proofs.step.finish.Lts as lts
+use Rattle.rules.proofs.group.put_back.Reads as put-back-reads
+use Rattle.rules.proofs.group.take_out.Reads as take-out-reads
+use Rattle.rules.proofs.step.decides_now.Reads as decides-now-reads
+use Rattle.rules.proofs.store.Store.hand_over.Reads as hand-over-reads
 
-sub-before : tie.Need-sub-before
-sub-before c = search needs
-
-cast-before : tie.Need-cast-before
-cast-before c = search needs
-
-add-before : tie.Need-add-before
-add-before c = search needs
-
-element-copy-out-before : tie.Need-element-copy-out-before
-element-copy-out-before c = search needs
+take-out-requires : tie.Need-take-out-requires
+take-out-requires c κs = search needs
 
 put-back-requires : tie.Need-put-back-requires
 put-back-requires c κs = search needs
@@ -29,33 +28,32 @@ hand-over-requires c κs = search needs
 hand-over-requires-2 : tie.Need-hand-over-requires-2
 hand-over-requires-2 c κs = search needs
 
+add-total : tie.Need-add-total
+add-total c =
+    let a = c .before .before .before .before .before .before .before .before .before .before .before .before .before .before .before .before .before .before .before .before .args in
+    omega (arith, c .before .before .before .before .before .before .hand-over .ensures .1, c .before .before .hand-over2 .ensures .1, turned-small (a .i) (a .next .first) (a .store .now), turned-small (a .i) (a .next .second) (c .before .before .before .before .before .before .hand-over .last .0))
+
 decides-now-requires : tie.Need-decides-now-requires
 decides-now-requires c κs = search needs
-
-add-t16 : tie.Need-add-t16
-add-t16 c =
-    let a = c .before .before .before .before .before .before .before .before .before .before .before .before .before .before .before .before .before .args in
-    omega (arith, c .before .before .before .before .before .before .before .hand-over .ensures .1, c .before .before .before .hand-over2 .ensures .1, turned-small (a .i) (a .next .first) (a .store .now), turned-small (a .i) (a .next .second) (c .before .before .before .before .before .before .before .hand-over .last .0))
 
 same-length : tie.Need-same-length
 same-length c = search needs
 
 returns : tie.Need-returns
-unfolding said decidesNow processAt
-returns c = finishes _ _ _ _ (c .before .before .before .before .before .before .before .before .before .put-back .ensures (c .before .before .before .before .before .before .before .before .before .before .before .before .before .before .before .before .before .args .n)) (c .before .before .before .before .before .before .before .hand-over .ensures) (c .before .before .before .hand-over2 .ensures) (c .decides-now .ensures)
+unfolding said decidesNow
+returns c =
+    let a = c .before .before .before .before .before .before .before .before .before .before .before .before .before .before .before .before .before .before .before .before .before .args in
+    finishes _ _ _ _ (c .before .before .before .before .before .before .before .before .before .put-back .ensures (a .n)) (c .before .before .before .before .before .before .before .hand-over .ensures) (c .before .before .before .hand-over2 .ensures) (c .decides-now .ensures ∙ ap (λ (p : Process). a .next .process .decided && not (p .decided)) (c .before .before .before .before .before .before .before .before .before .before .before .before .before .before .take-out .ensures (a .n)))
 
 pub finish-spec : {M : Type 1} → statement M
 finish-spec =
     tie.close
     (tie.spec
-    sub-before
-    cast-before
-    add-before
-    element-copy-out-before
+    take-out-requires
     put-back-requires
     hand-over-requires
     hand-over-requires-2
+    add-total
     decides-now-requires
-    add-t16
     same-length
     returns)
