@@ -355,7 +355,8 @@ impl Process {
         if self.phase != 2 {
             return false;
         }
-        tally::holds(self.estimates, sender)
+        let heard = self.estimates;
+        tally::holds(heard, sender)
     }
 
     pub(crate) fn may_suspect(self) -> bool
@@ -406,13 +407,13 @@ impl Next {
         ensures { λ r. ⌜ r ≡ events.adopts n proposer value self ⌝ }
     {
         let process = self.process;
-        let first = self.first;
+        let sent_before = self.first;
         let second = self.second;
         if proposer == coordinator(process.round, n) {
             let adopted = process.takes(proposer, value);
             return Next {
                 process: adopted,
-                first: first,
+                first: sent_before,
                 second: second,
             };
         }

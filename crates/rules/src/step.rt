@@ -530,10 +530,11 @@ pub(crate) fn finish(
     let again = Store::hand_over(store, i, second);
     let total = sent + again;
     let decided = decides_now(before.decided, process.decided);
-    Answer::Applied {
+    let applied = Answer::Applied {
         sent: total,
         decided: decided,
-    }
+    };
+    applied
 }
 
 // One step of a group that is not damaged over a store that is not short.
