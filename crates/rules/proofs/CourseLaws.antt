@@ -2,7 +2,7 @@
 use mathlib.Core.Path.{_≡_, refl, sym, ap, ap₂, subst, _∙_}
 use mathlib.Core.Bool.{Bool, true, false, _&&_, not}
 use mathlib.Core.List.{List}
-use Prim.Native.Nat.{ℕ, zero, suc, _+_, _≤_}
+use Prim.Native.Nat.{ℕ, zero, suc, _+_, _≤_, _<_}
 use native.Mathlib.Nat.{le-trans}
 use native.Mathlib.Omega.{arith}
 use lib.Dec.{eqb, ltb}
@@ -15,6 +15,8 @@ use Rattle.rules.specs.declared.process.Message.{Message}
 use Rattle.rules.specs.declared.process.Message.the-variants.{Nothing, E, S, F, Decision}
 use Rattle.rules.specs.declared.step.Step.{Step}
 use Rattle.rules.specs.declared.step.Step.the-variants.{DeliverE, DeliverS, DeliverF, DeliverDecision, Suspect, Pause, Crash, Recover}
+use Rattle.rules.specs.declared.step.Address.{Address}
+use Rattle.rules.specs.declared.step.Address.the-variants.{Misses, At}
 use Rattle.rules.specs.declared.step.Course.{Course}
 use Rattle.rules.specs.declared.step.Course.the-variants.{Idles, Refuses, Takes}
 use Rattle.rules.specs.Limits.{greatestSize, lastRound, storeLength}
@@ -26,8 +28,9 @@ use Rattle.rules.specs.Steps.{takerOf, numbersOf, roundOf, delivers, slo
 use Rattle.rules.specs.Idle.{idle, idleE, idleS, idleF}
 use Rattle.rules.specs.Refusals.{row, among, every, short, damaged, strange, late, isRecover, down, unsent, misnamed, maySuspect, impossible, entersPast, refusal}
 use Rattle.rules.specs.Step.{idles, orIdle, unlessRefused, course, handOvers, sentBy, decidesNow, settled, stepped}
-use Rattle.rules.specs.Parts.{upIn, ownRows, deliveryRows, entryRows, unlessPast, orPast, orImpossible, Ready, Handable}
-use Rattle.rules.proofs.RowLaws.{orElse, own-else, delivery-else, entry-else, among-true, own-zero, delivery-zero, entry-zero}
+use Rattle.rules.specs.Parts.{numberRows, unlessMissed, addressOf, heldRows, unlessPast, orPast, orImpossible, orUp, lastCourse, unlessHeld, heldCourse, Ready, Numbered, Handable}
+use Rattle.rules.proofs.RowLaws.{orElse, number-else, held-else, delivered-zero, owned-zero, held-zero}
+use Rattle.rules.proofs.StepLaws.{up-yes, up-no}
 use Rattle.rules.proofs.SoundLaws.{sound-facts, Fine, course-fine}
 
 -- the rows that are left to every step: 7 and 8
@@ -76,68 +79,34 @@ else-next : (part after : ℕ) → part ≡ 0 → orElse part after ≡ after
 unfolding orElse
 else-next part after e = rw e
 
--- ---- deliveries, of any kind: of the entry e, to i from j, of round r
+-- ---- the rows as the code tests them
 
-pub record Delivery (g : Group) (l : List ℕ) (s : Step) (i j r e : ℕ) : Type 0 where
-  pub numbers : strange g s ≡ not (among (g .n) i && (among (g .n) j && true))
-  pub round : late s ≡ ltb lastRound r
-  pub up : down g s ≡ not (upIn (g .flags) i)
-  pub sent : unsent l s ≡ eqb e 0
-  pub named : misnamed g l s ≡ not (among (g .n) (proposerOf e))
+module _ (g : Group) (l : List ℕ) (s : Step) (h : Ready g l) where
+  -- those of the step's numbers, then those of the record and the entry, then 7 and 8
+  parts-refusal : refusal g l s
+      ≡ orElse (numberRows (g .n) s) (orElse (heldRows (g .n) (processAt g (takerOf s) .up) (entryIn l s) (delivers s) (isRecover s)) (rest g l s))
+  unfolding strange down unsent misnamed
+  parts-refusal =
+      ready g l s h
+      ∙ ap (λ (k : ℕ). row (not (every (among (g .n)) (numbersOf s))) 3 (row (late s) 4 k))
+      (held-else (g .n) (processAt g (takerOf s) .up) (entryIn l s) (delivers s) (isRecover s) (rest g l s))
+      ∙ number-else (g .n) s (orElse (heldRows (g .n) (processAt g (takerOf s) .up) (entryIn l s) (delivers s) (isRecover s)) (rest g l s))
 
-module _ (g : Group) (l : List ℕ) (s : Step) (i j r e : ℕ) (h : Ready g l) (d : Delivery g l s i j r e) where
-  delivery-refusal : refusal g l s ≡ orElse (deliveryRows (g .n) (upIn (g .flags) i) i j r) (orElse (entryRows (g .n) e) (rest g l s))
-  delivery-refusal =
-      ready g l s h ∙ rw (d .numbers, d .round, d .up, d .sent, d .named)
-      (ap (λ (m : ℕ). row (not (among (g .n) i && (among (g .n) j && true))) 3 (row (ltb lastRound r) 4 (row (not (upIn (g .flags) i)) 5 m)))
-      (entry-else (g .n) e (rest g l s))
-      ∙ delivery-else (g .n) (upIn (g .flags) i) i j r (orElse (entryRows (g .n) e) (rest g l s)))
+  -- refused by 3 or 4
+  pub numbers-refuse : {k : ℕ} → numberRows (g .n) s ≡ k → ¬ (k ≡ 0) → Refuses k ≡ course g l s
+  numbers-refuse a b = refuses g l s (parts-refusal ∙ else-first _ _ a b) b
 
-  -- refused by 3, 4 or 5
-  pub delivery-refuses : {k : ℕ} → k ≡ deliveryRows (g .n) (upIn (g .flags) i) i j r → ¬ (k ≡ 0) → Refuses k ≡ course g l s
-  delivery-refuses a b = refuses g l s (delivery-refusal ∙ else-first _ _ (sym a) b) b
+  -- refused by 5, 6 or the entry's 2
+  held-refuse : {k : ℕ} → numberRows (g .n) s ≡ 0 → heldRows (g .n) (processAt g (takerOf s) .up) (entryIn l s) (delivers s) (isRecover s) ≡ k
+      → ¬ (k ≡ 0) → Refuses k ≡ course g l s
+  held-refuse z a b = refuses g l s (parts-refusal ∙ else-next _ _ z ∙ else-first _ _ a b) b
 
-  -- refused by 6 or the entry's 2
-  pub entry-refuses : {k : ℕ} → deliveryRows (g .n) (upIn (g .flags) i) i j r ≡ 0 → k ≡ entryRows (g .n) e → ¬ (k ≡ 0) → Refuses k ≡ course g l s
-  entry-refuses z a b = refuses g l s (delivery-refusal ∙ else-next _ _ z ∙ else-first _ _ (sym a) b) b
+  -- refused by 7 or 8, or not
+  held-pass : numberRows (g .n) s ≡ 0 → heldRows (g .n) (processAt g (takerOf s) .up) (entryIn l s) (delivers s) (isRecover s) ≡ 0
+      → refusal g l s ≡ rest g l s
+  held-pass z y = parts-refusal ∙ else-next _ _ z ∙ else-next _ _ y
 
-  -- refused by 8, or not
-  pub delivery-passes : deliveryRows (g .n) (upIn (g .flags) i) i j r ≡ 0 → entryRows (g .n) e ≡ 0 → refusal g l s ≡ rest g l s
-  delivery-passes z y = delivery-refusal ∙ else-next _ _ z ∙ else-next _ _ y
-
-module _ (g : Group) (l : List ℕ) (i j r : ℕ) (c : Bool) where
-  pub an-E : Delivery g l (DeliverE i j r c) i j r (getD l (slot r j kindE) 0)
-  unfolding strange numbersOf every late roundOf down isRecover takerOf processAt unsent delivers misnamed entryIn slotOf
-  an-E = record { numbers = refl; round = refl; up = refl; sent = refl; named = refl }
-
-  pub an-S : Delivery g l (DeliverS i j r c) i j r (getD l (slot r j kindS) 0)
-  unfolding strange numbersOf every late roundOf down isRecover takerOf processAt unsent delivers misnamed entryIn slotOf
-  an-S = record { numbers = refl; round = refl; up = refl; sent = refl; named = refl }
-
-  pub an-F : Delivery g l (DeliverF i j r c) i j r (getD l (slot r j kindF) 0)
-  unfolding strange numbersOf every late roundOf down isRecover takerOf processAt unsent delivers misnamed entryIn slotOf
-  an-F = record { numbers = refl; round = refl; up = refl; sent = refl; named = refl }
-
-pub a-decision : (g : Group) (l : List ℕ) (i j : ℕ) (c : Bool) → Delivery g l (DeliverDecision i j c) i j 0 (getD l (decisionSlot j) 0)
-unfolding strange numbersOf every late roundOf down isRecover takerOf processAt unsent delivers misnamed entryIn slotOf
-a-decision g l i j c = record { numbers = refl; round = refl; up = refl; sent = refl; named = refl }
-
--- the course of each kind, once 3 to the entry's 2 are ruled out, over the record p and the entry e
-module _ (g : Group) (l : List ℕ) (i j : ℕ) (c : Bool) {p : Process} (hp : p ≡ processAt g i) where
-  pub course-E : (r : ℕ) {e : ℕ} → e ≡ getD l (slot r j kindE) 0 → refusal g l (DeliverE i j r c) ≡ rest g l (DeliverE i j r c)
-      → orIdle (idleE p j r) c i p (onE (g .n) i j r (proposerOf e) (valueOf e) p) ≡ course g l (DeliverE i j r c)
-  unfolding impossible entersPast row idle isCut takerOf eventOf entryIn slotOf
-  course-E r he z = rw (hp, he) (passes g l (DeliverE i j r c) z)
-
-  pub course-S : (r : ℕ) → refusal g l (DeliverS i j r c) ≡ rest g l (DeliverS i j r c)
-      → orIdle (idleS p j r) c i p (onS (g .n) j p) ≡ course g l (DeliverS i j r c)
-  unfolding impossible entersPast row idle isCut takerOf eventOf
-  course-S r z = rw hp (passes g l (DeliverS i j r c) z)
-
-  pub course-decision : {e : ℕ} → e ≡ getD l (decisionSlot j) 0 → refusal g l (DeliverDecision i j c) ≡ rest g l (DeliverDecision i j c)
-      → orIdle (p .decided) c i p (onDecision (valueOf e) p) ≡ course g l (DeliverDecision i j c)
-  unfolding impossible entersPast row idle isCut takerOf eventOf entryIn slotOf
-  course-decision he z = rw (hp, he) (passes g l (DeliverDecision i j c) z)
+-- ---- the course of each kind, once 3 to the entry's 2 are ruled out
 
 -- an F: idle, refused by 8, or taken
 past-course : (g : Group) (l : List ℕ) (s : Step)
@@ -152,127 +121,146 @@ past-course g l s z = go (idle g s) (ltb lastRound (eventOf g l s .process .roun
     go false true eb et = rw (eb, et) (refuses g l s (z ∙ rw (eb, et)) (λ a. omega arith))
     go false false eb et = rw (eb, et) (rw eb at (passes g l s (z ∙ rw (eb, et))))
 
-pub course-F : (g : Group) (l : List ℕ) (i j r : ℕ) (c : Bool) {p : Process} {e : ℕ} → p ≡ processAt g i → e ≡ getD l (slot r j kindF) 0
-    → refusal g l (DeliverF i j r c) ≡ rest g l (DeliverF i j r c)
-    → orPast (idleF p j r) c i p (onF (g .n) i j r (proposerOf e) (valueOf e) p) ≡ course g l (DeliverF i j r c)
-unfolding impossible entersPast row idle isCut takerOf eventOf entryIn slotOf
-course-F g l i j r c hp he z = rw (hp, he) (past-course g l (DeliverF i j r c) z)
+-- a suspicion: taken where it is possible, refused by 7 where it is not
+suspect-course : (g : Group) (l : List ℕ) (i : ℕ) (c : Bool) → refusal g l (Suspect i c) ≡ rest g l (Suspect i c)
+    → orImpossible (maySuspect (processAt g i)) c i (processAt g i) ≡ course g l (Suspect i c)
+unfolding impossible entersPast row orIdle idle isCut takerOf eventOf orImpossible
+suspect-course g l i c z = go (maySuspect (processAt g i)) refl
+  where
+    go : (m : Bool) → maySuspect (processAt g i) ≡ m → orImpossible (maySuspect (processAt g i)) c i (processAt g i) ≡ course g l (Suspect i c)
+    go true e = rw e (passes g l (Suspect i c) (z ∙ rw e))
+    go false e = rw e (refuses g l (Suspect i c) (z ∙ rw e) (λ a. omega arith))
 
--- ---- steps of one process
+-- a recovery: refused by 7 where the process is up, taken where it is down
+recover-course : (g : Group) (l : List ℕ) (i : ℕ) → refusal g l (Recover i) ≡ rest g l (Recover i)
+    → orUp (processAt g i .up) i (processAt g i) ≡ course g l (Recover i)
+unfolding impossible entersPast row orIdle idle isCut takerOf eventOf cutIf
+recover-course g l i z = go (processAt g i .up) refl
+  where
+    go : (u : Bool) → processAt g i .up ≡ u → orUp (processAt g i .up) i (processAt g i) ≡ course g l (Recover i)
+    go true e = sym (up-yes i (processAt g i) e) ∙ refuses g l (Recover i) (z ∙ rw e) (λ a. omega arith)
+    go false e = sym (up-no i (processAt g i) e) ∙ passes g l (Recover i) (z ∙ rw e)
 
-pub record Own (g : Group) (l : List ℕ) (s : Step) (i : ℕ) : Type 0 where
-  pub numbers : strange g s ≡ not (among (g .n) i && true)
-  pub round : late s ≡ false
-  pub up : down g s ≡ not (upIn (g .flags) i)
-  pub sent : unsent l s ≡ false
-  pub named : misnamed g l s ≡ false
+-- every kind
+last-course : (g : Group) (l : List ℕ) (s : Step) → refusal g l s ≡ rest g l s
+    → lastCourse (g .n) (takerOf s) (entryIn l s) (processAt g (takerOf s)) s ≡ course g l s
+unfolding lastCourse impossible entersPast row orIdle idle isCut takerOf eventOf cutIf
+last-course g l (DeliverE i j r c) z = passes g l (DeliverE i j r c) z
+last-course g l (DeliverS i j r c) z = passes g l (DeliverS i j r c) z
+last-course g l (DeliverF i j r c) z = past-course g l (DeliverF i j r c) z
+last-course g l (DeliverDecision i j c) z = passes g l (DeliverDecision i j c) z
+last-course g l (Suspect i c) z = suspect-course g l i c z
+last-course g l (Pause i) z = passes g l (Pause i) z
+last-course g l (Crash i) z = passes g l (Crash i) z
+last-course g l (Recover i) z = recover-course g l i z
 
-module _ (g : Group) (l : List ℕ) (s : Step) (i : ℕ) (h : Ready g l) (d : Own g l s i) where
-  own-refusal : refusal g l s ≡ orElse (ownRows (g .n) (upIn (g .flags) i) i) (rest g l s)
-  unfolding row
-  own-refusal =
-      ready g l s h ∙ rw (d .numbers, d .round, d .up, d .sent, d .named) (own-else (g .n) (upIn (g .flags) i) i (rest g l s))
+-- ---- the code's way: from the address, over the record and the entry
 
-  -- refused by 3 or 5
-  pub own-refuses : {k : ℕ} → k ≡ ownRows (g .n) (upIn (g .flags) i) i → ¬ (k ≡ 0) → Refuses k ≡ course g l s
-  own-refuses a b = refuses g l s (own-refusal ∙ else-first _ _ (sym a) b) b
+-- what an address that was reached says of its step
+pub record Reached (n : ℕ) (s : Step) (taker place : ℕ) (delivered recovering : Bool) : Type 0 where
+  pub numbers : numberRows n s ≡ 0
+  pub taker-is : taker ≡ takerOf s
+  pub place-is : place ≡ slotOf s
+  pub delivers-is : delivered ≡ delivers s
+  pub recovers-is : recovering ≡ isRecover s
 
-  -- refused by 7, or not
-  pub own-passes : ownRows (g .n) (upIn (g .flags) i) i ≡ 0 → refusal g l s ≡ rest g l s
-  own-passes z = own-refusal ∙ else-next _ _ z
+pub reached : {t k : ℕ} {d c : Bool} (n : ℕ) (s : Step) → addressOf n s ≡ At t k d c → Reached n s t k d c
+unfolding addressOf unlessMissed
+reached {t} {k} {d} {c} n s e = go (numberRows n s) refl
+  where
+    go : (m : ℕ) → numberRows n s ≡ m → Reached n s t k d c
+    go zero z =
+        let a : At (takerOf s) (slotOf s) (delivers s) (isRecover s) ≡ At t k d c = rw z at e in
+        record { numbers = z; taker-is = cc; place-is = cc; delivers-is = cc; recovers-is = cc }
+    go (suc m) z =
+        let a : Misses (suc m) ≡ At t k d c = rw z at e in
+        let y : _≡_ {A = ℕ} 0 1 = cc in
+        absurd (omega arith)
 
-module _ (g : Group) (l : List ℕ) (i : ℕ) where
-  pub a-suspicion : (c : Bool) → Own g l (Suspect i c) i
-  unfolding strange numbersOf every late roundOf down isRecover takerOf processAt unsent delivers misnamed
-  a-suspicion c = record { numbers = refl; round = refl; up = refl; sent = refl; named = refl }
+pub misses-course : {k : ℕ} (g : Group) (l : List ℕ) (s : Step) → Ready g l → addressOf (g .n) s ≡ Misses k → Refuses k ≡ course g l s
+unfolding addressOf unlessMissed
+misses-course {k} g l s h e = go (numberRows (g .n) s) refl
+  where
+    go : (m : ℕ) → numberRows (g .n) s ≡ m → Refuses k ≡ course g l s
+    go zero z =
+        let a : At (takerOf s) (slotOf s) (delivers s) (isRecover s) ≡ Misses k = rw z at e in
+        let y : _≡_ {A = ℕ} 0 1 = cc in
+        absurd (omega arith)
+    go (suc m) z =
+        let a : Misses (suc m) ≡ Misses k = rw z at e in
+        let y : suc m ≡ k = cc in
+        ap Refuses (sym y) ∙ numbers-refuse g l s h z (λ b. omega arith)
 
-  pub a-pause : Own g l (Pause i) i
-  unfolding strange numbersOf every late roundOf down isRecover takerOf processAt unsent delivers misnamed
-  a-pause = record { numbers = refl; round = refl; up = refl; sent = refl; named = refl }
+pub held-course : (g : Group) (l : List ℕ) (s : Step) {i e : ℕ} {p : Process} → Ready g l → numberRows (g .n) s ≡ 0
+    → i ≡ takerOf s → e ≡ entryIn l s → p ≡ processAt g (takerOf s) → heldCourse (g .n) i e p s ≡ course g l s
+unfolding heldCourse unlessHeld
+held-course g l s h z hi he hp =
+    rw (hi, he, hp) (go (heldRows (g .n) (processAt g (takerOf s) .up) (entryIn l s) (delivers s) (isRecover s)) refl)
+  where
+    go : (m : ℕ) → heldRows (g .n) (processAt g (takerOf s) .up) (entryIn l s) (delivers s) (isRecover s) ≡ m
+        → heldCourse (g .n) (takerOf s) (entryIn l s) (processAt g (takerOf s)) s ≡ course g l s
+    go zero y = rw y (last-course g l s (held-pass g l s h z y))
+    go (suc m) y = rw y (held-refuse g l s h z y (λ b. omega arith))
 
-  pub a-crash : Own g l (Crash i) i
-  unfolding strange numbersOf every late roundOf down isRecover takerOf processAt unsent delivers misnamed
-  a-crash = record { numbers = refl; round = refl; up = refl; sent = refl; named = refl }
+-- ---- what the rows that were passed say of a step's numbers
 
-module _ (g : Group) (l : List ℕ) (i : ℕ) {p : Process} (hp : p ≡ processAt g i) where
-  pub course-pause : refusal g l (Pause i) ≡ rest g l (Pause i) → Takes i (onPause p) ≡ course g l (Pause i)
-  unfolding impossible entersPast row orIdle idle isCut takerOf eventOf cutIf
-  course-pause z = rw hp (passes g l (Pause i) z)
+pub taker-low : (n : ℕ) (s : Step) → numberRows n s ≡ 0 → (1 ≤ takerOf s) × (takerOf s ≤ n)
+unfolding numberRows numbersOf every late roundOf takerOf row
+taker-low n (DeliverE i j r c) z = let d = delivered-zero n i j r z in (d .to-low, d .to-high)
+taker-low n (DeliverS i j r c) z = let d = delivered-zero n i j r z in (d .to-low, d .to-high)
+taker-low n (DeliverF i j r c) z = let d = delivered-zero n i j r z in (d .to-low, d .to-high)
+taker-low n (DeliverDecision i j c) z = let d = delivered-zero n i j 0 z in (d .to-low, d .to-high)
+taker-low n (Suspect i c) z = owned-zero n i z
+taker-low n (Pause i) z = owned-zero n i z
+taker-low n (Crash i) z = owned-zero n i z
+taker-low n (Recover i) z = owned-zero n i z
 
-  pub course-crash : refusal g l (Crash i) ≡ rest g l (Crash i) → Takes i (onCrash p) ≡ course g l (Crash i)
-  unfolding impossible entersPast row orIdle idle isCut takerOf eventOf cutIf
-  course-crash z = rw hp (passes g l (Crash i) z)
+-- its message has a place in the store
+pub place-low : (n : ℕ) (s : Step) → n ≤ greatestSize → numberRows n s ≡ 0 → slotOf s < storeLength
+unfolding numberRows numbersOf every late roundOf slotOf
+place-low n (DeliverE i j r c) h z = let d = delivered-zero n i j r z in omega arith
+place-low n (DeliverS i j r c) h z = let d = delivered-zero n i j r z in omega arith
+place-low n (DeliverF i j r c) h z = let d = delivered-zero n i j r z in omega arith
+place-low n (DeliverDecision i j c) h z = let d = delivered-zero n i j 0 z in omega arith
+place-low n (Suspect i c) h z = omega arith
+place-low n (Pause i) h z = omega arith
+place-low n (Crash i) h z = omega arith
+place-low n (Recover i) h z = omega arith
 
-  -- a suspicion: taken where it is possible, refused by 7 where it is not
-  pub course-suspect : (c : Bool) → refusal g l (Suspect i c) ≡ rest g l (Suspect i c) → orImpossible (maySuspect p) c i p ≡ course g l (Suspect i c)
-  unfolding impossible entersPast row orIdle idle isCut takerOf eventOf orImpossible
-  course-suspect c z = rw hp (go (maySuspect (processAt g i)) refl)
-    where
-      go : (m : Bool) → maySuspect (processAt g i) ≡ m → orImpossible (maySuspect (processAt g i)) c i (processAt g i) ≡ course g l (Suspect i c)
-      go true e = rw e (passes g l (Suspect i c) (z ∙ rw e))
-      go false e = rw e (refuses g l (Suspect i c) (z ∙ rw e) (λ a. omega arith))
-
--- ---- recover: rows 3 and 7
-
-module _ (g : Group) (l : List ℕ) (i : ℕ) (h : Ready g l) where
-  recover-refusal : refusal g l (Recover i) ≡ row (not (among (g .n) i && true)) 3 (row (processAt g i .up) 7 0)
-  unfolding row strange numbersOf every late roundOf down isRecover unsent delivers misnamed impossible entersPast
-  recover-refusal = ready g l (Recover i) h
-
-  pub recover-strange : among (g .n) i ≡ false → Refuses 3 ≡ course g l (Recover i)
-  unfolding row
-  recover-strange a = refuses g l (Recover i) (recover-refusal ∙ rw a) (λ b. omega arith)
-
-  pub recover-up : {p : Process} → p ≡ processAt g i → among (g .n) i ≡ true → p .up ≡ true → Refuses 7 ≡ course g l (Recover i)
-  unfolding row
-  recover-up hp a u = refuses g l (Recover i) (recover-refusal ∙ rw (a, ← hp, u)) (λ b. omega arith)
-
-  pub recover-down : {p : Process} → p ≡ processAt g i → among (g .n) i ≡ true → p .up ≡ false → Takes i (onRecover p) ≡ course g l (Recover i)
-  unfolding row orIdle idle isCut takerOf eventOf cutIf
-  recover-down hp a u = rw hp (passes g l (Recover i) (recover-refusal ∙ rw (a, ← hp, u)))
-
--- ---- what the rows that were passed say of the numbers of a step
-
-pub record Admits (n i j r : ℕ) : Type 0 where
-  pub size-low : 1 ≤ n
-  pub size-high : n ≤ greatestSize
-  pub to-low : 1 ≤ i
-  pub to-high : i ≤ greatestSize
-  pub from-low : 1 ≤ j
-  pub from-high : j ≤ greatestSize
-  pub round : r ≤ lastRound
-
-pub admits : (g : Group) (l : List ℕ) (b : Bool) (i j r : ℕ) → Ready g l → deliveryRows (g .n) b i j r ≡ 0 → Admits (g .n) i j r
-admits g l b i j r h z =
-    let d = delivery-zero (g .n) b i j r z in
-    let s = sound-facts g (h .sound) in
+-- the taker's record, and what a course over it asks
+pub numbered : (g : Group) (l : List ℕ) (s : Step) {p : Process} → Ready g l → numberRows (g .n) s ≡ 0 → p ≡ processAt g (takerOf s) → Numbered (g .n) p s
+numbered g l s h z hp =
+    let f = sound-facts g (h .sound) in
+    let t = taker-low (g .n) s z in
     record {
-      size-low = s .low;
-      size-high = s .high;
-      to-low = d .to-low;
-      to-high = le-trans (d .to-high) (s .high);
-      from-low = d .from-low;
-      from-high = le-trans (d .from-high) (s .high);
-      round = d .round;
+      low = f .low;
+      high = f .high;
+      round = omega (arith, ap (λ (q : Process). q .round) hp, f .each (takerOf s) (t .0) (t .1) .in-round);
+      numbers = z;
     }
 
--- the entry's proposer fits
-pub names : (g : Group) (l : List ℕ) (e : ℕ) → Ready g l → entryRows (g .n) e ≡ 0 → proposerOf e ≤ greatestSize
-names g l e h z = le-trans (entry-zero (g .n) e z .high) (sound-facts g (h .sound) .high)
+-- of a message: its sender and its round
+abbrev Numbers : ℕ → ℕ → ℕ → Type 0
+Numbers n j r = (1 ≤ j) × (j ≤ greatestSize) × (r ≤ lastRound)
 
--- a step of one process is of one of 1..16
-pub owns : (g : Group) (l : List ℕ) (i : ℕ) → Ready g l → among (g .n) i ≡ true → (1 ≤ i) × (i ≤ greatestSize)
-owns g l i h a = let d = among-true (g .n) i a in (d .0, le-trans (d .1) (sound-facts g (h .sound) .high))
+module _ (n i j r : ℕ) (c : Bool) {s : Step} (h : n ≤ greatestSize) (z : numberRows n s ≡ 0) where
+  pub numbers-E : s ≡ DeliverE i j r c → Numbers n j r
+  unfolding numberRows numbersOf every late roundOf
+  numbers-E e = let d = delivered-zero n i j r (rw e at z) in (d .from-low, le-trans (d .from-high) h, d .round)
 
--- the record of the process that takes a delivery is in a round of at most 63
-pub in-rounds : (g : Group) (l : List ℕ) (b : Bool) (i j r : ℕ) {p : Process} → p ≡ processAt g i → Ready g l → deliveryRows (g .n) b i j r ≡ 0 → p .round ≤ lastRound
-in-rounds g l b i j r hp h z =
-    let d = delivery-zero (g .n) b i j r z in
-    omega (arith, ap (λ (q : Process). q .round) hp, sound-facts g (h .sound) .each i (d .to-low) (d .to-high) .in-round)
+  pub numbers-S : s ≡ DeliverS i j r c → Numbers n j r
+  unfolding numberRows numbersOf every late roundOf
+  numbers-S e = let d = delivered-zero n i j r (rw e at z) in (d .from-low, le-trans (d .from-high) h, d .round)
 
--- a step of one process that passed 3 and 5 is of one of 1..16
-pub own-in : (g : Group) (l : List ℕ) (b : Bool) (i : ℕ) → Ready g l → ownRows (g .n) b i ≡ 0 → (1 ≤ i) × (i ≤ greatestSize)
-own-in g l b i h z = let d = own-zero (g .n) b i z in (d .low, le-trans (d .high) (sound-facts g (h .sound) .high))
+  pub numbers-F : s ≡ DeliverF i j r c → Numbers n j r
+  unfolding numberRows numbersOf every late roundOf
+  numbers-F e = let d = delivered-zero n i j r (rw e at z) in (d .from-low, le-trans (d .from-high) h, d .round)
+
+-- of a delivered entry: its proposer
+pub held-names : (n : ℕ) (up : Bool) (e : ℕ) (s : Step) → n ≤ greatestSize → delivers s ≡ true
+    → heldRows n up e (delivers s) (isRecover s) ≡ 0 → proposerOf e ≤ greatestSize
+held-names n up e s h d z =
+    le-trans (held-zero n up e (isRecover s) (ap (λ (b : Bool). heldRows n up e b (isRecover s)) (sym d) ∙ z) .1) h
 
 -- ---- the outcome of a course
 

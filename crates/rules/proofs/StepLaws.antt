@@ -8,9 +8,9 @@ use Rattle.rules.specs.declared.process.Next.{Next}
 use Rattle.rules.specs.declared.step.Course.{Course}
 use Rattle.rules.specs.declared.step.Course.the-variants.{Idles, Refuses, Takes}
 use Rattle.rules.specs.Limits.{lastRound}
-use Rattle.rules.specs.Events.{cutIf, onSuspect}
+use Rattle.rules.specs.Events.{cutIf, onSuspect, onRecover}
 use Rattle.rules.specs.Step.{idles, orIdle}
-use Rattle.rules.specs.Parts.{orPast, unlessPast, orImpossible}
+use Rattle.rules.specs.Parts.{orPast, unlessPast, orImpossible, orUp}
 
 module _ (cut : Bool) (i : ℕ) (p : Process) (x : Next) where
   -- a delivery that is idle, and one that is not
@@ -44,3 +44,13 @@ module _ (cut : Bool) (i : ℕ) (p : Process) where
   pub possible-no : {b : Bool} → b ≡ false → Refuses 7 ≡ orImpossible b cut i p
   unfolding orImpossible
   possible-no e = rw e
+
+module _ (i : ℕ) (p : Process) where
+  -- a recovery of a process that is up, and of one that is down
+  pub up-yes : {b : Bool} → b ≡ true → Refuses 7 ≡ orUp b i p
+  unfolding orUp
+  up-yes e = rw e
+
+  pub up-no : {b : Bool} → b ≡ false → Takes i (onRecover p) ≡ orUp b i p
+  unfolding orUp
+  up-no e = rw e

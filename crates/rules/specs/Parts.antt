@@ -2,38 +2,45 @@
 use mathlib.Core.Path.{_≡_}
 use mathlib.Core.Bool.{Bool, true, false, _&&_, not}
 use mathlib.Core.List.{List}
-use Prim.Native.Nat.{ℕ, _+_, _-_, _≤_}
+use Prim.Native.Nat.{ℕ, zero, suc, _≤_}
 use lib.Dec.{eqb, ltb}
-use lib.ListN.{getD, length}
+use lib.ListN.{length}
 use Rattle.rules.specs.declared.group.Group.{Group}
 use Rattle.rules.specs.declared.process.Process.{Process}
 use Rattle.rules.specs.declared.process.Next.{Next}
+use Rattle.rules.specs.declared.step.Address.{Address}
+use Rattle.rules.specs.declared.step.Address.the-variants.{Misses, At}
 use Rattle.rules.specs.declared.step.Course.{Course}
 use Rattle.rules.specs.declared.step.Course.the-variants.{Idles, Refuses, Takes}
+use Rattle.rules.specs.declared.step.Step.{Step}
+use Rattle.rules.specs.declared.step.Step.the-variants.{DeliverE, DeliverS, DeliverF, DeliverDecision, Suspect, Pause, Crash, Recover}
 use Rattle.rules.specs.Limits.{greatestSize, lastRound, storeLength}
-use Rattle.rules.specs.Records.{third}
-use Rattle.rules.specs.Store.{proposerOf, messageRound}
-use Rattle.rules.specs.Events.{onSuspect, cutIf}
-use Rattle.rules.specs.Refusals.{row, among, damaged}
-use Rattle.rules.specs.Step.{idles}
+use Rattle.rules.specs.Store.{proposerOf, valueOf, messageRound}
+use Rattle.rules.specs.Events.{onE, onS, onF, onDecision, onSuspect, onPause, onCrash, onRecover, cutIf}
+use Rattle.rules.specs.Steps.{takerOf, numbersOf, delivers, slotOf}
+use Rattle.rules.specs.Idle.{idleE, idleS, idleF}
+use Rattle.rules.specs.Refusals.{row, among, every, damaged, late, isRecover, maySuspect}
+use Rattle.rules.specs.Step.{idles, orIdle}
 
--- process i is up, read off the list of flags
-abbrev pub upIn : List Bool → ℕ → Bool
-upIn flags i = getD flags (third + (i - 1)) false
+-- ---- the step alone: rows 3 and 4, then who takes it, where its message stands, whether it delivers one, whether it recovers
 
--- the table's rows 3 and 5 for a step of one process
-unfoldable pub ownRows : ℕ → Bool → ℕ → ℕ
-ownRows n up i = row (not (among n i && true)) 3 (row (not up) 5 0)
+unfoldable pub numberRows : ℕ → Step → ℕ
+numberRows n s = row (not (every (among n) (numbersOf s))) 3 (row (late s) 4 0)
 
--- its rows 3, 4 and 5 for a delivery
-unfoldable pub deliveryRows : ℕ → Bool → ℕ → ℕ → ℕ → ℕ
-deliveryRows n up i j r = row (not (among n i && (among n j && true))) 3 (row (ltb lastRound r) 4 (row (not up) 5 0))
+unfoldable pub unlessMissed : ℕ → Address → Address
+unlessMissed zero a = a
+unlessMissed (suc k) a = Misses (suc k)
 
--- its rows 6 and 2 for an entry
-unfoldable pub entryRows : ℕ → ℕ → ℕ
-entryRows n e = row (eqb e 0) 6 (row (not (among n (proposerOf e))) 2 0)
+unfoldable pub addressOf : ℕ → Step → Address
+addressOf n s = unlessMissed (numberRows n s) (At (takerOf s) (slotOf s) (delivers s) (isRecover s))
 
--- the course of an F: idle, refused where the event x is past the last round, or taken
+-- ---- the record p of process i and the entry e: rows 5, 6 and the entry's 2, then the course of each kind
+
+unfoldable pub heldRows : ℕ → Bool → ℕ → Bool → Bool → ℕ
+heldRows n up e delivered recovering =
+    row (not recovering && not up) 5 (row (delivered && eqb e 0) 6 (row (delivered && not (among n (proposerOf e))) 2 0))
+
+-- an F: idle, refused where the event x is past the last round, or taken
 unfoldable pub unlessPast : Bool → Bool → ℕ → Next → Course
 unlessPast true cut i x = Refuses 8
 unlessPast false cut i x = Takes i (cutIf cut x)
@@ -42,17 +49,48 @@ unfoldable pub orPast : Bool → Bool → ℕ → Process → Next → Course
 orPast true cut i p x = idles cut i p
 orPast false cut i p x = unlessPast (ltb lastRound (x .process .round)) cut i x
 
--- the course of a suspicion: taken where it is possible
+-- a suspicion: taken where it is possible
 unfoldable pub orImpossible : Bool → Bool → ℕ → Process → Course
 orImpossible true cut i p = Takes i (cutIf cut (onSuspect p))
 orImpossible false cut i p = Refuses 7
 
--- what a step needs once 11 and the group's 2 are ruled out
+-- a recovery: taken where the process is down
+unfoldable pub orUp : Bool → ℕ → Process → Course
+orUp true i p = Refuses 7
+orUp false i p = Takes i (onRecover p)
+
+unfoldable pub lastCourse : ℕ → ℕ → ℕ → Process → Step → Course
+lastCourse n i e p (DeliverE to from r c) = orIdle (idleE p from r) c i p (onE n i from r (proposerOf e) (valueOf e) p)
+lastCourse n i e p (DeliverS to from r c) = orIdle (idleS p from r) c i p (onS n from p)
+lastCourse n i e p (DeliverF to from r c) = orPast (idleF p from r) c i p (onF n i from r (proposerOf e) (valueOf e) p)
+lastCourse n i e p (DeliverDecision to from c) = orIdle (p .decided) c i p (onDecision (valueOf e) p)
+lastCourse n i e p (Suspect to c) = orImpossible (maySuspect p) c i p
+lastCourse n i e p (Pause to) = Takes i (onPause p)
+lastCourse n i e p (Crash to) = Takes i (onCrash p)
+lastCourse n i e p (Recover to) = orUp (p .up) i p
+
+unfoldable pub unlessHeld : ℕ → Course → Course
+unlessHeld zero c = c
+unlessHeld (suc k) c = Refuses (suc k)
+
+unfoldable pub heldCourse : ℕ → ℕ → ℕ → Process → Step → Course
+heldCourse n i e p s = unlessHeld (heldRows n (p .up) e (delivers s) (isRecover s)) (lastCourse n i e p s)
+
+-- ---- what the functions ask
+
+-- a step, once 11 and the group's 2 are ruled out
 pub record Ready (g : Group) (l : List ℕ) : Type 0 where
   pub long : storeLength ≤ length l
   pub sound : damaged g ≡ false
 
--- what handing over needs of process i, its messages and the store
+-- a course, once 3 and 4 are ruled out too
+pub record Numbered (n : ℕ) (p : Process) (s : Step) : Type 0 where
+  pub low : 1 ≤ n
+  pub high : n ≤ greatestSize
+  pub round : p .round ≤ lastRound
+  pub numbers : numberRows n s ≡ 0
+
+-- handing over, of process i, its messages and the store
 pub record Handable (i : ℕ) (x : Next) (l : List ℕ) : Type 0 where
   pub low : 1 ≤ i
   pub high : i ≤ greatestSize

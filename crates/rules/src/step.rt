@@ -1,16 +1,18 @@
 // A step: its refusals in their order, its idle cases, and what it changes. Works on lent arrays and a lent store, without copying a group.
 // Reads the course of the step first, and writes only where the step is taken.
 ghost use mathlib.Core.Path.{_≡_};
-ghost use mathlib.Core.Bool.{_&&_, not};
+ghost use mathlib.Core.Bool.{_&&_, not, true, false};
 ghost use Prim.Native.Nat.{_≤_};
 ghost use Rattle.rules.specs.Limits as limits;
-ghost use Rattle.rules.specs.Records.{groupOf, processAt};
+ghost use lib.Dec.{ltb};
+ghost use Rattle.rules.specs.Records.{groupOf};
 ghost use Rattle.rules.specs.Store as stores;
 ghost use Rattle.rules.specs.Answers.{outcome, said};
 ghost use Rattle.rules.specs.Refusals as refusals;
 ghost use Rattle.rules.specs.Idle as idleness;
 ghost use Rattle.rules.specs.Events as events;
 ghost use Rattle.rules.specs.Step as steps;
+ghost use Rattle.rules.specs.Steps.{delivers};
 ghost use Rattle.rules.specs.Parts as parts;
 use crate::group;
 use crate::group::Bytes;
@@ -82,51 +84,137 @@ pub enum Course {
     Takes(u8, Next),
 }
 
-// ---- refusals
-
-// Refusals 3 and 5 of a step of one process, or 0.
-pub(crate) fn own_refusal(n: u8, flags: &Flags, process: u32) -> u8
-    requires { ⌜ n ≤ limits.greatestSize ⌝ }
-    ensures { λ r. ⌜ r ≡ parts.ownRows n (parts.upIn (now (flags .entry)) process) process ⌝ }
-{
-    if !group::among(n, process) {
-        return 3;
-    }
-    if !flags[Group::THIRD + (process as usize - 1)] {
-        return 5;
-    }
-    0
+// Where a step leads: refused by a number of its own, or the process that takes it, the place of its message (0 where it delivers none),
+// whether it delivers a message, and whether it recovers a process.
+pub enum Address {
+    Misses(u8),
+    At {
+        taker: u8,
+        place: usize,
+        delivers: bool,
+        recovers: bool,
+    },
 }
 
-// Refusals 6 and 2 of the entry of a delivered message, or 0.
-pub(crate) fn entry_refusal(n: u8, entry: u64) -> u8
-    ensures { λ r. ⌜ r ≡ parts.entryRows n entry ⌝ }
+// ---- the step alone
+
+// The address of an E, S or F.
+pub(crate) fn message_address(n: u8, to: u32, from: u32, round: u32, kind: usize) -> Address
+    requires { ⌜ (n ≤ limits.greatestSize) × (kind ≤ 2) ⌝ }
+    ensures { λ r. ⌜ r ≡ parts.unlessMissed (refusals.row (not (refusals.among n to && (refusals.among n from && true))) 3 (refusals.row (ltb limits.lastRound round) 4 0)) (Address.At to (stores.slot round from kind) true false) ⌝ }
 {
+    if !group::among(n, to) {
+        return Address::Misses(3);
+    }
+    if !group::among(n, from) {
+        return Address::Misses(3);
+    }
+    if (Process::LAST_ROUND as u32) < round {
+        return Address::Misses(4);
+    }
+    let taker = to as u8;
+    let place = Store::slot(round as u8, from as u8, kind);
+    Address::At {
+        taker,
+        place,
+        delivers: true,
+        recovers: false,
+    }
+}
+
+// The address of a decision.
+pub(crate) fn decision_address(n: u8, to: u32, from: u32) -> Address
+    requires { ⌜ n ≤ limits.greatestSize ⌝ }
+    ensures { λ r. ⌜ r ≡ parts.unlessMissed (refusals.row (not (refusals.among n to && (refusals.among n from && true))) 3 0) (Address.At to (stores.decisionSlot from) true false) ⌝ }
+{
+    if !group::among(n, to) {
+        return Address::Misses(3);
+    }
+    if !group::among(n, from) {
+        return Address::Misses(3);
+    }
+    let taker = to as u8;
+    let place = Store::decision_slot(from as u8);
+    Address::At {
+        taker,
+        place,
+        delivers: true,
+        recovers: false,
+    }
+}
+
+// The address of a step of one process.
+pub(crate) fn own_address(n: u8, process: u32, recovers: bool) -> Address
+    ensures { λ r. ⌜ r ≡ parts.unlessMissed (refusals.row (not (refusals.among n process && true)) 3 0) (Address.At process 0 false recovers) ⌝ }
+{
+    if !group::among(n, process) {
+        return Address::Misses(3);
+    }
+    let taker = process as u8;
+    Address::At {
+        taker,
+        place: 0,
+        delivers: false,
+        recovers: recovers,
+    }
+}
+
+impl Step {
+    // Where the step leads in a group of n: refusals 3 and 4, then what it reads.
+    pub(crate) fn address(self, n: u8) -> Address
+        requires { ⌜ n ≤ limits.greatestSize ⌝ }
+        ensures { λ r. ⌜ r ≡ parts.addressOf n self ⌝ }
+    {
+        match self {
+            Step::DeliverE {
+                to,
+                from,
+                round,
+                cut: _,
+            } => message_address(n, to, from, round, Store::E),
+            Step::DeliverS {
+                to,
+                from,
+                round,
+                cut: _,
+            } => message_address(n, to, from, round, Store::S),
+            Step::DeliverF {
+                to,
+                from,
+                round,
+                cut: _,
+            } => message_address(n, to, from, round, Store::F),
+            Step::DeliverDecision { to, from, cut: _ } => decision_address(n, to, from),
+            Step::Suspect { process, cut: _ } => own_address(n, process, false),
+            Step::Pause { process } => own_address(n, process, false),
+            Step::Crash { process } => own_address(n, process, false),
+            Step::Recover { process } => own_address(n, process, true),
+        }
+    }
+}
+
+// Whether a step meets a process that is down, and does not recover it.
+pub(crate) fn is_down(up: bool, recovers: bool) -> bool
+    ensures { λ r. ⌜ r ≡ (not recovers && not up) ⌝ }
+{
+    !recovers && !up
+}
+
+// Refusals 5, 6 and the entry's 2, or 0.
+pub(crate) fn held_refusal(n: u8, up: bool, entry: u64, delivers: bool, recovers: bool) -> u8
+    ensures { λ r. ⌜ r ≡ parts.heldRows n up entry delivers recovers ⌝ }
+{
+    if is_down(up, recovers) {
+        return 5;
+    }
+    if !delivers {
+        return 0;
+    }
     if entry == 0 {
         return 6;
     }
     if !group::among(n, (entry / 4294967296) as u32) {
         return 2;
-    }
-    0
-}
-
-// Refusals 3, 4 and 5 of a delivery, or 0. A decision has round 0 here.
-pub(crate) fn delivery_refusal(n: u8, flags: &Flags, to: u32, from: u32, round: u32) -> u8
-    requires { ⌜ n ≤ limits.greatestSize ⌝ }
-    ensures { λ r. ⌜ r ≡ parts.deliveryRows n (parts.upIn (now (flags .entry)) to) to from round ⌝ }
-{
-    if !group::among(n, to) {
-        return 3;
-    }
-    if !group::among(n, from) {
-        return 3;
-    }
-    if (Process::LAST_ROUND as u32) < round {
-        return 4;
-    }
-    if !flags[Group::THIRD + (to as usize - 1)] {
-        return 5;
     }
     0
 }
@@ -222,6 +310,72 @@ impl Process {
         Course::Takes(i, next.cut_if(cut))
     }
 
+    // A recovery of a process that is up is refused.
+    pub(crate) fn course_recover(self, i: u8) -> Course
+        ensures { λ r. ⌜ r ≡ parts.orUp (self .up) i self ⌝ }
+    {
+        if self.up {
+            return Course::Refuses(7);
+        }
+        Course::Takes(i, self.on_recover())
+    }
+
+    // The course of a step that none of 11 to the entry's 2 stops.
+    pub(crate) fn last_course(self, n: u8, i: u8, entry: u64, step: Step) -> Course
+        requires { ⌜ parts.Numbered n self step × (parts.heldRows n (self .up) entry (delivers step) (refusals.isRecover step) ≡ 0) ⌝ }
+        ensures { λ r. ⌜ r ≡ parts.lastCourse n i entry self step ⌝ }
+    {
+        match step {
+            Step::DeliverE {
+                to: _,
+                from,
+                round,
+                cut,
+            } => self.course_e(n, i, from as u8, round as u8, entry, cut),
+            Step::DeliverS {
+                to: _,
+                from,
+                round,
+                cut,
+            } => self.course_s(n, i, from as u8, round as u8, cut),
+            Step::DeliverF {
+                to: _,
+                from,
+                round,
+                cut,
+            } => self.course_f(n, i, from as u8, round as u8, entry, cut),
+            Step::DeliverDecision {
+                to: _,
+                from: _,
+                cut,
+            } => self.course_decision(i, entry, cut),
+            Step::Suspect { process: _, cut } => self.course_suspect(i, cut),
+            Step::Pause { process: _ } => Course::Takes(i, self.on_pause()),
+            Step::Crash { process: _ } => Course::Takes(i, self.on_crash()),
+            Step::Recover { process: _ } => self.course_recover(i),
+        }
+    }
+
+    // The course of a step that none of 11 to 4 stops.
+    pub(crate) fn course(
+        self,
+        n: u8,
+        i: u8,
+        entry: u64,
+        delivering: bool,
+        recovering: bool,
+        step: Step,
+    ) -> Course
+        requires { ⌜ parts.Numbered n self step × (delivering ≡ delivers step) × (recovering ≡ refusals.isRecover step) ⌝ }
+        ensures { λ r. ⌜ r ≡ parts.heldCourse n i entry self step ⌝ }
+    {
+        let refusal = held_refusal(n, self.up, entry, delivering, recovering);
+        if refusal != 0 {
+            return Course::Refuses(refusal);
+        }
+        self.last_course(n, i, entry, step)
+    }
+
     // A suspicion that is not possible is refused.
     pub(crate) fn course_suspect(self, i: u8, cut: bool) -> Course
         ensures { λ r. ⌜ r ≡ parts.orImpossible (refusals.maySuspect self) cut i self ⌝ }
@@ -235,211 +389,6 @@ impl Process {
 
 // ---- the course of a step over lent arrays, which it only reads
 
-pub(crate) fn on_e(
-    n: u8,
-    words: &Words,
-    halves: &Halves,
-    bytes: &Bytes,
-    flags: &Flags,
-    store: &[u64],
-    to: u32,
-    from: u32,
-    round: u32,
-    cut: bool,
-) -> Course
-    requires { ⌜ parts.Ready (groupOf n (now words) (now halves) (now bytes) (now flags)) (now store) ⌝ }
-    ensures { λ r. ⌜ r ≡ steps.course (groupOf n (now (words .entry)) (now (halves .entry)) (now (bytes .entry)) (now (flags .entry))) (now (store .entry)) (Step.DeliverE to from round cut) ⌝ }
-{
-    let refusal = delivery_refusal(n, flags, to, from, round);
-    if refusal != 0 {
-        return Course::Refuses(refusal);
-    }
-    let sender = from as u8;
-    let entry = store[Store::slot(round as u8, sender, Store::E)];
-    let damage = entry_refusal(n, entry);
-    if damage != 0 {
-        return Course::Refuses(damage);
-    }
-    let i = to as u8;
-    group::take_out(words, halves, bytes, flags, i).course_e(n, i, sender, round as u8, entry, cut)
-}
-
-pub(crate) fn on_s(
-    n: u8,
-    words: &Words,
-    halves: &Halves,
-    bytes: &Bytes,
-    flags: &Flags,
-    store: &[u64],
-    to: u32,
-    from: u32,
-    round: u32,
-    cut: bool,
-) -> Course
-    requires { ⌜ parts.Ready (groupOf n (now words) (now halves) (now bytes) (now flags)) (now store) ⌝ }
-    ensures { λ r. ⌜ r ≡ steps.course (groupOf n (now (words .entry)) (now (halves .entry)) (now (bytes .entry)) (now (flags .entry))) (now (store .entry)) (Step.DeliverS to from round cut) ⌝ }
-{
-    let refusal = delivery_refusal(n, flags, to, from, round);
-    if refusal != 0 {
-        return Course::Refuses(refusal);
-    }
-    let sender = from as u8;
-    let entry = store[Store::slot(round as u8, sender, Store::S)];
-    let damage = entry_refusal(n, entry);
-    if damage != 0 {
-        return Course::Refuses(damage);
-    }
-    let i = to as u8;
-    group::take_out(words, halves, bytes, flags, i).course_s(n, i, sender, round as u8, cut)
-}
-
-pub(crate) fn on_f(
-    n: u8,
-    words: &Words,
-    halves: &Halves,
-    bytes: &Bytes,
-    flags: &Flags,
-    store: &[u64],
-    to: u32,
-    from: u32,
-    round: u32,
-    cut: bool,
-) -> Course
-    requires { ⌜ parts.Ready (groupOf n (now words) (now halves) (now bytes) (now flags)) (now store) ⌝ }
-    ensures { λ r. ⌜ r ≡ steps.course (groupOf n (now (words .entry)) (now (halves .entry)) (now (bytes .entry)) (now (flags .entry))) (now (store .entry)) (Step.DeliverF to from round cut) ⌝ }
-{
-    let refusal = delivery_refusal(n, flags, to, from, round);
-    if refusal != 0 {
-        return Course::Refuses(refusal);
-    }
-    let sender = from as u8;
-    let entry = store[Store::slot(round as u8, sender, Store::F)];
-    let damage = entry_refusal(n, entry);
-    if damage != 0 {
-        return Course::Refuses(damage);
-    }
-    let i = to as u8;
-    group::take_out(words, halves, bytes, flags, i).course_f(n, i, sender, round as u8, entry, cut)
-}
-
-pub(crate) fn on_decision(
-    n: u8,
-    words: &Words,
-    halves: &Halves,
-    bytes: &Bytes,
-    flags: &Flags,
-    store: &[u64],
-    to: u32,
-    from: u32,
-    cut: bool,
-) -> Course
-    requires { ⌜ parts.Ready (groupOf n (now words) (now halves) (now bytes) (now flags)) (now store) ⌝ }
-    ensures { λ r. ⌜ r ≡ steps.course (groupOf n (now (words .entry)) (now (halves .entry)) (now (bytes .entry)) (now (flags .entry))) (now (store .entry)) (Step.DeliverDecision to from cut) ⌝ }
-{
-    let refusal = delivery_refusal(n, flags, to, from, 0);
-    if refusal != 0 {
-        return Course::Refuses(refusal);
-    }
-    let entry = store[Store::decision_slot(from as u8)];
-    let damage = entry_refusal(n, entry);
-    if damage != 0 {
-        return Course::Refuses(damage);
-    }
-    let i = to as u8;
-    group::take_out(words, halves, bytes, flags, i).course_decision(i, entry, cut)
-}
-
-pub(crate) fn on_suspect(
-    n: u8,
-    words: &Words,
-    halves: &Halves,
-    bytes: &Bytes,
-    flags: &Flags,
-    store: &[u64],
-    process: u32,
-    cut: bool,
-) -> Course
-    requires { ⌜ parts.Ready (groupOf n (now words) (now halves) (now bytes) (now flags)) (now store) ⌝ }
-    ensures { λ r. ⌜ r ≡ steps.course (groupOf n (now (words .entry)) (now (halves .entry)) (now (bytes .entry)) (now (flags .entry))) (now (store .entry)) (Step.Suspect process cut) ⌝ }
-{
-    let refusal = own_refusal(n, flags, process);
-    if refusal != 0 {
-        return Course::Refuses(refusal);
-    }
-    let i = process as u8;
-    group::take_out(words, halves, bytes, flags, i).course_suspect(i, cut)
-}
-
-pub(crate) fn on_pause(
-    n: u8,
-    words: &Words,
-    halves: &Halves,
-    bytes: &Bytes,
-    flags: &Flags,
-    store: &[u64],
-    process: u32,
-) -> Course
-    requires { ⌜ parts.Ready (groupOf n (now words) (now halves) (now bytes) (now flags)) (now store) ⌝ }
-    ensures { λ r. ⌜ r ≡ steps.course (groupOf n (now (words .entry)) (now (halves .entry)) (now (bytes .entry)) (now (flags .entry))) (now (store .entry)) (Step.Pause process) ⌝ }
-{
-    let refusal = own_refusal(n, flags, process);
-    if refusal != 0 {
-        return Course::Refuses(refusal);
-    }
-    let i = process as u8;
-    Course::Takes(
-        i,
-        group::take_out(words, halves, bytes, flags, i).on_pause(),
-    )
-}
-
-pub(crate) fn on_crash(
-    n: u8,
-    words: &Words,
-    halves: &Halves,
-    bytes: &Bytes,
-    flags: &Flags,
-    store: &[u64],
-    process: u32,
-) -> Course
-    requires { ⌜ parts.Ready (groupOf n (now words) (now halves) (now bytes) (now flags)) (now store) ⌝ }
-    ensures { λ r. ⌜ r ≡ steps.course (groupOf n (now (words .entry)) (now (halves .entry)) (now (bytes .entry)) (now (flags .entry))) (now (store .entry)) (Step.Crash process) ⌝ }
-{
-    let refusal = own_refusal(n, flags, process);
-    if refusal != 0 {
-        return Course::Refuses(refusal);
-    }
-    let i = process as u8;
-    Course::Takes(
-        i,
-        group::take_out(words, halves, bytes, flags, i).on_crash(),
-    )
-}
-
-// A process that is up is not recovered: it is refused.
-pub(crate) fn on_recover(
-    n: u8,
-    words: &Words,
-    halves: &Halves,
-    bytes: &Bytes,
-    flags: &Flags,
-    store: &[u64],
-    process: u32,
-) -> Course
-    requires { ⌜ parts.Ready (groupOf n (now words) (now halves) (now bytes) (now flags)) (now store) ⌝ }
-    ensures { λ r. ⌜ r ≡ steps.course (groupOf n (now (words .entry)) (now (halves .entry)) (now (bytes .entry)) (now (flags .entry))) (now (store .entry)) (Step.Recover process) ⌝ }
-{
-    if !group::among(n, process) {
-        return Course::Refuses(3);
-    }
-    let i = process as u8;
-    let p = group::take_out(words, halves, bytes, flags, i);
-    if p.up {
-        return Course::Refuses(7);
-    }
-    Course::Takes(i, p.on_recover())
-}
-
 pub(crate) fn course_of(
     n: u8,
     words: &Words,
@@ -452,49 +401,19 @@ pub(crate) fn course_of(
     requires { ⌜ parts.Ready (groupOf n (now words) (now halves) (now bytes) (now flags)) (now store) ⌝ }
     ensures { λ r. ⌜ r ≡ steps.course (groupOf n (now (words .entry)) (now (halves .entry)) (now (bytes .entry)) (now (flags .entry))) (now (store .entry)) step ⌝ }
 {
-    match step {
-        Step::DeliverE {
-            to,
-            from,
-            round,
-            cut,
-        } => on_e(n, words, halves, bytes, flags, store, to, from, round, cut),
-        Step::DeliverS {
-            to,
-            from,
-            round,
-            cut,
-        } => on_s(n, words, halves, bytes, flags, store, to, from, round, cut),
-        Step::DeliverF {
-            to,
-            from,
-            round,
-            cut,
-        } => on_f(n, words, halves, bytes, flags, store, to, from, round, cut),
-        Step::DeliverDecision { to, from, cut } => on_decision(
-            n,
-            words,
-            halves,
-            bytes,
-            flags,
-            store,
-            to,
-            from,
-            cut,
-        ),
-        Step::Suspect { process, cut } => on_suspect(
-            n,
-            words,
-            halves,
-            bytes,
-            flags,
-            store,
-            process,
-            cut,
-        ),
-        Step::Pause { process } => on_pause(n, words, halves, bytes, flags, store, process),
-        Step::Crash { process } => on_crash(n, words, halves, bytes, flags, store, process),
-        Step::Recover { process } => on_recover(n, words, halves, bytes, flags, store, process),
+    let address = step.address(n);
+    match address {
+        Address::Misses(number) => Course::Refuses(number),
+        Address::At {
+            taker,
+            place,
+            delivers,
+            recovers,
+        } => {
+            let entry = store[place];
+            let p = group::take_out(words, halves, bytes, flags, taker);
+            p.course(n, taker, entry, delivers, recovers, step)
+        }
     }
 }
 

@@ -1,107 +1,64 @@
--- `course_of` meets its contract: each kind of step has its own function. Assumes nothing.
-use Rattle.rules.specs.Step.{course}
+-- `course_of` meets its contract: the address, then the course over the record and the entry. Assumes nothing.
+use Rattle.rules.proofs.CourseLaws.{reached, misses-course, held-course, taker-low, place-low, numbered}
+use Rattle.rules.proofs.SoundLaws.{sound-facts}
+use Rattle.rules.specs.Steps.{entryIn}
+use Rattle.rules.specs.Records.{processAt}
+use lib.ListN.{getD}
+use native.Mathlib.Omega.{arith}
+use Prim.Native.Nat.{ℕ}
 use mathlib.Core.Path.{sym, ap, _∙_}
 use borrow.Author.Needs.{needs}
 use Rattle.rules.proofs.step.course_of.Statement.{statement}
 use Rattle.rules.proofs.step.course_of.Tie as tie
 
-enum-known-step : tie.Need-enum-known-step
-enum-known-step c = search needs
+address-requires : tie.Need-address-requires
+address-requires c κs = sound-facts _ (c .before .pre .sound) .high
 
-on-e-requires : tie.Need-on-e-requires
-on-e-requires c κs = search needs
+enum-known-address : tie.Need-enum-known-address
+enum-known-address c = search needs
 
-enum-known-step-2 : tie.Need-enum-known-step-2
-enum-known-step-2 c = search needs
+enum-known-address-2 : tie.Need-enum-known-address-2
+enum-known-address-2 c = search needs
 
-on-s-requires : tie.Need-on-s-requires
-on-s-requires c κs = search needs
+mul-entry : tie.Need-mul-entry
+mul-entry c =
+    let t = reached _ _ (sym (c .before .before .before .address .ensures) ∙ c .before .address3 .given .1) in
+    omega (arith, t .place-is, place-low _ _ (sound-facts _ (c .before .before .before .before .before .pre .sound) .high) (t .numbers))
 
-enum-known-step-3 : tie.Need-enum-known-step-3
-enum-known-step-3 c = search needs
+shared-slice-read-entry : tie.Need-shared-slice-read-entry
+shared-slice-read-entry c =
+    let t = reached _ _ (sym (c .before .before .before .before .address .ensures) ∙ c .before .before .address3 .given .1) in
+    omega (arith, t .place-is, c .before .before .before .before .before .before .pre .long, place-low _ _ (sound-facts _ (c .before .before .before .before .before .before .pre .sound) .high) (t .numbers))
 
-on-f-requires : tie.Need-on-f-requires
-on-f-requires c κs = search needs
+take-out-requires : tie.Need-take-out-requires
+take-out-requires c κs =
+    let t = reached _ _ (sym (c .before .before .before .before .address .ensures) ∙ c .before .before .address3 .given .1) in
+    omega (arith, t .taker-is, sound-facts _ (c .before .before .before .before .before .before .pre .sound) .high, taker-low _ _ (t .numbers))
 
-enum-known-step-4 : tie.Need-enum-known-step-4
-enum-known-step-4 c = search needs
-
-on-decision-requires : tie.Need-on-decision-requires
-on-decision-requires c κs = search needs
-
-enum-known-step-5 : tie.Need-enum-known-step-5
-enum-known-step-5 c = search needs
-
-on-suspect-requires : tie.Need-on-suspect-requires
-on-suspect-requires c κs = search needs
-
-enum-known-step-6 : tie.Need-enum-known-step-6
-enum-known-step-6 c = search needs
-
-on-pause-requires : tie.Need-on-pause-requires
-on-pause-requires c κs = search needs
-
-enum-known-step-7 : tie.Need-enum-known-step-7
-enum-known-step-7 c = search needs
-
-on-crash-requires : tie.Need-on-crash-requires
-on-crash-requires c κs = search needs
-
-enum-known-step-8 : tie.Need-enum-known-step-8
-enum-known-step-8 c = search needs
-
-on-recover-requires : tie.Need-on-recover-requires
-on-recover-requires c κs = search needs
+course-requires : tie.Need-course-requires
+course-requires c κs =
+    let t = reached _ _ (sym (c .before .before .before .before .before .address .ensures) ∙ c .before .before .before .address3 .given .1) in
+    (numbered _ _ _ (c .before .before .before .before .before .before .before .pre) (t .numbers) (c .take-out .ensures (c .before .before .before .before .before .before .before .args .n) ∙ ap (processAt _) (t .taker-is)), t .delivers-is, t .recovers-is)
 
 returns : tie.Need-returns
-returns c = c .on-e .ensures ∙ ap (course _ _) (sym (c .before .before .step .given .1))
+returns c = misses-course _ _ _ (c .before .before .before .before .before .pre) (sym (c .before .before .before .address .ensures) ∙ c .before .address2 .given .1)
 
 returns-2 : tie.Need-returns-2
-returns-2 c = c .on-s .ensures ∙ ap (course _ _) (sym (c .before .before .step2 .given .1))
-
-returns-3 : tie.Need-returns-3
-returns-3 c = c .on-f .ensures ∙ ap (course _ _) (sym (c .before .before .step3 .given .1))
-
-returns-4 : tie.Need-returns-4
-returns-4 c = c .on-decision .ensures ∙ ap (course _ _) (sym (c .before .before .step4 .given .1))
-
-returns-5 : tie.Need-returns-5
-returns-5 c = c .on-suspect .ensures ∙ ap (course _ _) (sym (c .before .before .step5 .given .1))
-
-returns-6 : tie.Need-returns-6
-returns-6 c = c .on-pause .ensures ∙ ap (course _ _) (sym (c .before .before .step6 .given .1))
-
-returns-7 : tie.Need-returns-7
-returns-7 c = c .on-crash .ensures ∙ ap (course _ _) (sym (c .before .before .step7 .given .1))
-
-returns-8 : tie.Need-returns-8
-returns-8 c = c .on-recover .ensures ∙ ap (course _ _) (sym (c .before .before .step8 .given .1))
+unfolding entryIn
+returns-2 c =
+    let t = reached _ _ (sym (c .before .before .before .before .before .before .address .ensures) ∙ c .before .before .before .before .address3 .given .1) in
+    c .course .ensures ∙ held-course _ _ _ (c .before .before .before .before .before .before .before .before .pre) (t .numbers) (t .taker-is) (ap (λ (k : ℕ). getD (c .before .before .before .before .before .before .before .before .args .store .now) k 0) (t .place-is)) (c .before .take-out .ensures (c .before .before .before .before .before .before .before .before .args .n) ∙ ap (processAt _) (t .taker-is))
 
 pub course-of-spec : {M : Type 1} → statement M
 course-of-spec =
     tie.close
     (tie.spec
-    enum-known-step
-    on-e-requires
-    enum-known-step-2
-    on-s-requires
-    enum-known-step-3
-    on-f-requires
-    enum-known-step-4
-    on-decision-requires
-    enum-known-step-5
-    on-suspect-requires
-    enum-known-step-6
-    on-pause-requires
-    enum-known-step-7
-    on-crash-requires
-    enum-known-step-8
-    on-recover-requires
+    address-requires
+    enum-known-address
+    enum-known-address-2
+    mul-entry
+    shared-slice-read-entry
+    take-out-requires
+    course-requires
     returns
-    returns-2
-    returns-3
-    returns-4
-    returns-5
-    returns-6
-    returns-7
-    returns-8)
+    returns-2)

@@ -4,17 +4,11 @@ use Rattle.rules.specs.Step.{decidesNow}
 use Rattle.rules.specs.Answers.{said}
 use Rattle.rules.specs.declared.process.Process.{Process}
 use native.Mathlib.Omega.{arith}
-use mathlib.Core.Bool.{Bool, _&&_, not}
+use mathlib.Core.Bool.{_&&_, not}
 use mathlib.Core.Path.{ap, _∙_}
 use borrow.Author.Needs.{needs}
 use Rattle.rules.proofs.step.finish.Statement.{statement}
 use Rattle.rules.proofs.step.finish.Tie as tie
-use Rattle.rules.proofs.step.finish.Reads as reads
-use Rattle.rules.proofs.step.finish.Lts as lts
-use Rattle.rules.proofs.group.put_back.Reads as put-back-reads
-use Rattle.rules.proofs.group.take_out.Reads as take-out-reads
-use Rattle.rules.proofs.step.decides_now.Reads as decides-now-reads
-use Rattle.rules.proofs.store.Store.hand_over.Reads as hand-over-reads
 
 take-out-requires : tie.Need-take-out-requires
 take-out-requires c κs = search needs

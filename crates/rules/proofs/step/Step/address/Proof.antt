@@ -1,0 +1,116 @@
+-- `Step::address` meets its contract: each kind of step has its numbers. Assumes nothing.
+use Rattle.rules.specs.Parts.{numberRows, addressOf}
+use Rattle.rules.specs.Refusals.{row, every, late, isRecover}
+use Rattle.rules.specs.Steps.{takerOf, numbersOf, roundOf, delivers, slotOf}
+use borrow.Author.Needs.{needs}
+use Rattle.rules.proofs.step.Step.address.Statement.{statement}
+use Rattle.rules.proofs.step.Step.address.Tie as tie
+
+enum-known-self : tie.Need-enum-known-self
+enum-known-self c = search needs
+
+message-address-requires : tie.Need-message-address-requires
+message-address-requires c κs = search needs
+
+enum-known-self-2 : tie.Need-enum-known-self-2
+enum-known-self-2 c = search needs
+
+message-address-requires-2 : tie.Need-message-address-requires-2
+message-address-requires-2 c κs = search needs
+
+enum-known-self-3 : tie.Need-enum-known-self-3
+enum-known-self-3 c = search needs
+
+message-address-requires-3 : tie.Need-message-address-requires-3
+message-address-requires-3 c κs = search needs
+
+enum-known-self-4 : tie.Need-enum-known-self-4
+enum-known-self-4 c = search needs
+
+decision-address-requires : tie.Need-decision-address-requires
+decision-address-requires c κs = search needs
+
+enum-known-self-5 : tie.Need-enum-known-self-5
+enum-known-self-5 c = search needs
+
+own-address-requires : tie.Need-own-address-requires
+own-address-requires c κs = search needs
+
+enum-known-self-6 : tie.Need-enum-known-self-6
+enum-known-self-6 c = search needs
+
+own-address-requires-2 : tie.Need-own-address-requires-2
+own-address-requires-2 c κs = search needs
+
+enum-known-self-7 : tie.Need-enum-known-self-7
+enum-known-self-7 c = search needs
+
+own-address-requires-3 : tie.Need-own-address-requires-3
+own-address-requires-3 c κs = search needs
+
+enum-known-self-8 : tie.Need-enum-known-self-8
+enum-known-self-8 c = search needs
+
+own-address-requires-4 : tie.Need-own-address-requires-4
+own-address-requires-4 c κs = search needs
+
+returns : tie.Need-returns
+unfolding addressOf numberRows numbersOf every late roundOf row takerOf slotOf delivers isRecover
+returns c = rw (c .before .before .self .given .1) (c .message-address .ensures)
+
+returns-2 : tie.Need-returns-2
+unfolding addressOf numberRows numbersOf every late roundOf row takerOf slotOf delivers isRecover
+returns-2 c = rw (c .before .before .self2 .given .1) (c .message-address2 .ensures)
+
+returns-3 : tie.Need-returns-3
+unfolding addressOf numberRows numbersOf every late roundOf row takerOf slotOf delivers isRecover
+returns-3 c = rw (c .before .before .self3 .given .1) (c .message-address3 .ensures)
+
+returns-4 : tie.Need-returns-4
+unfolding addressOf numberRows numbersOf every late roundOf row takerOf slotOf delivers isRecover
+returns-4 c = rw (c .before .before .self4 .given .1) (c .decision-address .ensures)
+
+returns-5 : tie.Need-returns-5
+unfolding addressOf numberRows numbersOf every late roundOf row takerOf slotOf delivers isRecover
+returns-5 c = rw (c .before .before .self5 .given .1) (c .own-address .ensures)
+
+returns-6 : tie.Need-returns-6
+unfolding addressOf numberRows numbersOf every late roundOf row takerOf slotOf delivers isRecover
+returns-6 c = rw (c .before .before .self6 .given .1) (c .own-address2 .ensures)
+
+returns-7 : tie.Need-returns-7
+unfolding addressOf numberRows numbersOf every late roundOf row takerOf slotOf delivers isRecover
+returns-7 c = rw (c .before .before .self7 .given .1) (c .own-address3 .ensures)
+
+returns-8 : tie.Need-returns-8
+unfolding addressOf numberRows numbersOf every late roundOf row takerOf slotOf delivers isRecover
+returns-8 c = rw (c .before .before .self8 .given .1) (c .own-address4 .ensures)
+
+pub address-spec : {M : Type 1} → statement M
+address-spec =
+    tie.close
+    (tie.spec
+    enum-known-self
+    message-address-requires
+    enum-known-self-2
+    message-address-requires-2
+    enum-known-self-3
+    message-address-requires-3
+    enum-known-self-4
+    decision-address-requires
+    enum-known-self-5
+    own-address-requires
+    enum-known-self-6
+    own-address-requires-2
+    enum-known-self-7
+    own-address-requires-3
+    enum-known-self-8
+    own-address-requires-4
+    returns
+    returns-2
+    returns-3
+    returns-4
+    returns-5
+    returns-6
+    returns-7
+    returns-8)
