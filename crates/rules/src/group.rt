@@ -109,19 +109,11 @@ pub(crate) fn whole(n: u8, p: Process) -> bool
     requires { ⌜ n ≤ limits.greatestSize ⌝ }
     ensures { λ r. ⌜ r ≡ refusals.whole n p ⌝ }
 {
-    if Process::LAST_ROUND < p.round {
-        return false;
-    }
-    if !is_phase(p.phase) {
-        return false;
-    }
-    if !among(n, p.proposer as u32) {
-        return false;
-    }
-    if !tally::within(p.estimates, n) {
-        return false;
-    }
-    tally::within(p.suspicions, n)
+    let phase = is_phase(p.phase);
+    let proposer = (1 <= p.proposer) & (p.proposer <= n);
+    let estimates = tally::within(p.estimates, n);
+    let suspicions = tally::within(p.suspicions, n);
+    (p.round <= Process::LAST_ROUND) & (phase & (proposer & (estimates & suspicions)))
 }
 
 // Whether a group is damaged: its size is not 1 to 16, or a record of its processes has damage.
@@ -135,14 +127,14 @@ pub(crate) fn damaged(n: u8, words: &Words, halves: &Halves, bytes: &Bytes, flag
         return true;
     }
     let mut k: u8 = 0;
-    while k < n {
+    let mut sound = true;
+    while k < Group::LAST_NUMBER {
         let i = k + 1;
-        if !whole(n, take_out(words, halves, bytes, flags, i)) {
-            return true;
-        }
+        let good = whole(n, take_out(words, halves, bytes, flags, i));
+        sound = sound & (good | (n <= k));
         k = i;
     }
-    false
+    !sound
 }
 
 // Starts the first processes of a group with the values, one record for each.
@@ -167,6 +159,9 @@ pub(crate) fn fill(
 impl Group {
     // The most processes that a group has.
     pub const GREATEST: usize = 16;
+
+    // The number of the last process that a group can have.
+    const LAST_NUMBER: u8 = Group::GREATEST as u8;
 
     // Where the second and the third column of an array begin.
     pub(crate) const SECOND: usize = Group::GREATEST;
@@ -196,7 +191,7 @@ impl Group {
     pub fn process(self, i: u32) -> Process
         ensures { λ r. ⌜ r ≡ records.recordOf self i ⌝ }
     {
-        if !among(Group::GREATEST as u8, i) {
+        if !among(Group::LAST_NUMBER, i) {
             return Process::blank();
         }
         let words = self.words;

@@ -40,5 +40,5 @@ pub(crate) fn within(tally: u16, n: u8) -> bool
     requires { ⌜ n ≤ limits.greatestSize ⌝ }
     ensures { λ r. ⌜ r ≡ tallies.within tally n ⌝ }
 {
-    (tally as u32) < (1u32 << n)
+    tally <= ((1u32 << n) - 1) as u16
 }

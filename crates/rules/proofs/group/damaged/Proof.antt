@@ -1,15 +1,16 @@
--- `damaged` meets its contract: before each turn the records passed are whole. Assumes nothing.
+-- `damaged` meets its contract: before each turn `sound` says whether the processes passed of 1..n are whole. Assumes nothing.
 use Rattle.rules.proofs.RowLaws.{among-in}
-use Rattle.rules.proofs.AllLaws.{all-none, all-more, all-fails}
+use Rattle.rules.proofs.AllLaws.{all-none}
 use Rattle.rules.specs.Refusals.{allOf, among, whole, damaged}
 use Rattle.rules.specs.Records.{processAt, groupOf}
 use Rattle.rules.specs.declared.group.Group.{Group}
-use borrow.Author.Tests.{lt-leb, not-true, not-false}
+use borrow.Author.Tests.{lt-leb, leb-true, leb-false}
 use lib.Dec.{leb}
 use native.Mathlib.Omega.{arith}
-use Prim.Native.Nat.{ℕ, _+_, _≤_, _<_, _-_}
-use mathlib.Core.Bool.{Bool, true, false, _&&_, not, and-false}
-use mathlib.Core.Path.{_≡_, sym, ap, _∙_}
+use native.Mathlib.Numerals.{add-one}
+use Prim.Native.Nat.{ℕ, _+_, _≤_, _<_, _-_, min}
+use mathlib.Core.Bool.{Bool, true, false, _&&_, _||_, not, and-false}
+use mathlib.Core.Path.{_≡_, refl, sym, ap, ap₂, _∙_}
 use Rattle.rules.proofs.group.damaged.Statement.{statement}
 use Rattle.rules.proofs.group.damaged.Tie as tie
 
@@ -17,18 +18,43 @@ use Rattle.rules.proofs.group.damaged.Tie as tie
 abbrev wholeIn : Group → ℕ → Bool
 wholeIn g i = whole (g .n) (processAt g i)
 
+or-true : (b : Bool) → (b || true) ≡ true
+or-true true = refl
+or-true false = refl
+
+or-false : (b : Bool) → (b || false) ≡ b
+or-false true = refl
+or-false false = refl
+
+and-true : (b : Bool) → (b && true) ≡ b
+and-true true = refl
+and-true false = refl
+
+-- of the first k of 1..n: one more, where n has it
+module _ (p : ℕ → Bool) where
+  all-next : (k : ℕ) → allOf p (k + 1) ≡ (allOf p k && p (k + 1))
+  unfolding allOf
+  all-next k = rw (add-one k)
+
+  more : (n k : ℕ) → (allOf p (min k n) && (p (k + 1) || leb n k)) ≡ allOf p (min (k + 1) n)
+  more n k = go (leb n k) refl
+    where
+      go : (b : Bool) → leb n k ≡ b → (allOf p (min k n) && (p (k + 1) || b)) ≡ allOf p (min (k + 1) n)
+      go true e =
+          let h = leb-true n k e in
+          ap (λ (b : Bool). allOf p (min k n) && b) (or-true (p (k + 1))) ∙ and-true _ ∙ ap (allOf p) (omega (arith, h))
+      go false e =
+          let h = leb-false n k e in
+          ap₂ _&&_ (ap (allOf p) (omega (arith, h))) (or-false (p (k + 1))) ∙ sym (all-next k) ∙ ap (allOf p) (omega (arith, h))
+
 module _ (g : Group) where
   by-size : among 16 (g .n) ≡ false → true ≡ damaged g
   unfolding damaged
   by-size a = rw a
 
-  by-record : (k : ℕ) → 1 ≤ k → k ≤ g .n → wholeIn g k ≡ false → true ≡ damaged g
+  by-all : {sound : Bool} → among 16 (g .n) ≡ true → sound ≡ allOf (wholeIn g) (g .n) → not sound ≡ damaged g
   unfolding damaged
-  by-record k low high f = sym (ap not (ap (λ (b : Bool). among 16 (g .n) && b) (all-fails (wholeIn g) (g .n) k low high f) ∙ and-false (among 16 (g .n))))
-
-  by-none : among 16 (g .n) ≡ true → allOf (wholeIn g) (g .n) ≡ true → false ≡ damaged g
-  unfolding damaged
-  by-none a b = rw (a, b)
+  by-all a b = rw (a, b)
 
 too-small : (m : ℕ) → m ≡ 0 → among 16 m ≡ false
 unfolding among
@@ -39,10 +65,10 @@ unfolding among
 too-large m h = ap (λ (b : Bool). leb 1 m && b) (lt-leb m 16 h) ∙ and-false (leb 1 m)
 
 abbrev Inv-loop : tie.InvT-loop
-Inv-loop n words halves bytes flags k₀ k = (1 ≤ n) × (n ≤ 16) × (k ≤ n) × (allOf (wholeIn (groupOf n words halves bytes flags)) k ≡ true)
+Inv-loop n words halves bytes flags k₀ sound₀ k sound = (1 ≤ n) × (n ≤ 16) × (k ≤ 16) × (sound ≡ allOf (wholeIn (groupOf n words halves bytes flags)) (min k n))
 
 abbrev μ-loop : tie.MeasureT-loop
-μ-loop n words halves bytes flags k₀ k = n - k
+μ-loop n words halves bytes flags k₀ sound₀ k sound = 16 - k
 
 returns : tie.Need-returns Inv-loop μ-loop
 returns c = by-size _ (too-small _ (c .if1 .taken))
@@ -51,7 +77,7 @@ returns-2 : tie.Need-returns-2 Inv-loop μ-loop
 returns-2 c = by-size _ (too-large _ (c .if2 .taken))
 
 loop-holds : tie.Need-loop-holds Inv-loop μ-loop
-loop-holds c = (omega arith, omega arith, omega arith, all-none _)
+loop-holds c = (omega arith, omega arith, omega arith, sym (ap (allOf (wholeIn _)) (omega arith) ∙ all-none _))
 
 add-i : tie.Need-add-i Inv-loop μ-loop
 add-i c = omega arith
@@ -62,23 +88,20 @@ take-out-requires c κs = omega arith
 whole-requires : tie.Need-whole-requires Inv-loop μ-loop
 whole-requires c κs = omega arith
 
-returns-3 : tie.Need-returns-3 Inv-loop μ-loop
-returns-3 c =
-    let v = c .before .before .before .before .loop .inv in
-    by-record _ (c .before .before .before .before .loop .k + 1) (omega arith) (omega arith) (ap (whole (c .before .before .before .before .before .before .before .args .n)) (sym (c .before .before .take-out .ensures (c .before .before .before .before .before .before .before .args .n))) ∙ sym (c .before .whole .ensures) ∙ not-true _ (c .if3 .taken))
-
 loop-less : tie.Need-loop-less Inv-loop μ-loop
 loop-less c = omega arith
 
 loop-again : tie.Need-loop-again Inv-loop μ-loop
 loop-again c =
-    let v = c .before .before .before .before .loop .inv in
-    (v .0, v .1, omega arith, all-more _ _ (v .3) (ap (whole (c .before .before .before .before .before .before .before .args .n)) (sym (c .before .before .take-out .ensures (c .before .before .before .before .before .before .before .args .n))) ∙ sym (c .before .whole .ensures) ∙ not-false _ (c .if3 .left)))
+    let l = c .before .before .before .loop in
+    let n = c .before .before .before .before .before .before .args .n in
+    let w = c .whole .ensures ∙ ap (whole n) (c .before .take-out .ensures n) in
+    (l .inv .0, l .inv .1, omega arith, ap₂ (λ (s w : Bool). s && (w || leb n (l .k))) (l .inv .3) w ∙ more _ n (l .k))
 
-returns-4 : tie.Need-returns-4 Inv-loop μ-loop
-returns-4 c =
+returns-3 : tie.Need-returns-3 Inv-loop μ-loop
+returns-3 c =
     let v = c .before .loop .inv in
-    by-none _ (among-in 16 _ (v .0) (v .1)) (ap (allOf (wholeIn _)) (omega arith) ∙ v .3)
+    by-all _ (among-in 16 _ (v .0) (v .1)) (v .3 ∙ ap (allOf (wholeIn _)) (omega arith))
 
 pub damaged-spec : {M : Type 1} → statement M
 damaged-spec =
@@ -92,7 +115,6 @@ damaged-spec =
     add-i
     take-out-requires
     whole-requires
-    returns-3
     loop-less
     loop-again
-    returns-4)
+    returns-3)

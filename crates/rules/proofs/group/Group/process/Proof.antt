@@ -20,9 +20,6 @@ inside : (g : Group) (i : ℕ) → among 16 i ≡ true → processAt g i ≡ rec
 unfolding recordOf recordIf among
 inside g i a = rw a
 
-cast-among : tie.Need-cast-among
-cast-among c = search needs
-
 among-requires : tie.Need-among-requires
 among-requires c κs = search needs
 
@@ -44,4 +41,4 @@ returns-2 c = c .take-out .ensures (c .before .before .before .before .before .b
 pub process-spec : {M : Type 1} → statement M
 process-spec =
     tie.close
-    (tie.spec cast-among among-requires blank-requires returns cast-take-out take-out-requires returns-2)
+    (tie.spec among-requires blank-requires returns cast-take-out take-out-requires returns-2)
