@@ -51,3 +51,7 @@ start-one vs l = taken-one (started vs l)
 
 pub step-one : (g : Group) (l : List ℕ) (s : Step) (a b : Taken) (la lb : List ℕ) → Steps g l s a la → Steps g l s b lb → (a ≡ b) × (la ≡ lb)
 step-one g l s = taken-one (stepped g l s)
+
+-- where a contract says that the result is a value that the arguments fix, as those of `Group::process` and of the limits do, there is one result
+pub value-one : {A : Type 0} {wanted a b : A} → a ≡ wanted → b ≡ wanted → a ≡ b
+value-one x y = x ∙ sym y

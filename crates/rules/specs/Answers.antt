@@ -38,6 +38,6 @@ pub record Outcome : Type 0 where
 abbrev pub outcome : Group → List ℕ → Said → Outcome
 outcome g l a = record { group = g; store = l; says = a }
 
--- "A refused step leaves group and store as they were"
+-- refused by k: the "same group", and "No refusal changes the store."
 abbrev pub refused : Group → List ℕ → ℕ → Outcome
 refused g l k = outcome g l (saysRefused k)

@@ -1,5 +1,8 @@
 -- Document 01, "Steps": what a process record does with each event, as stages on the record. Assumes nothing.
 -- "A process record takes one event and gives back the next record, with the messages it hands over." This is the struct `Next`; at most two messages are handed over.
+--
+-- The repairs to the printed figure: 1, an F of a higher round sends i to phase 2 after the jump (`onF`); 2, tallies are sets of senders (`Tally`); 3, a suspicion in
+-- phase 2 is idle (`Idle.idleS`); 4, adoption and the majority tests apply to first receptions too (`onE`, `onF`); 5, a decision has no round (`Message`).
 use mathlib.Core.Bool.{Bool, true, false, _&&_, not}
 use Prim.Native.Nat.{ℕ, _+_}
 use lib.Dec.{eqb, ltb}
@@ -131,7 +134,7 @@ marks p =
       suspicions = p .suspicions;
     }
 
--- "Down, everything kept"
+-- "Down, everything kept: the null steps of document 002."
 unfoldable pub paused : Process → Process
 paused p =
     record {
@@ -148,7 +151,7 @@ paused p =
       suspicions = p .suspicions;
     }
 
--- "Down, both tallies emptied."
+-- "Down, both tallies emptied. This loss, and the cut, are ours and not document 002's."
 unfoldable pub crashed : Process → Process
 crashed p =
     record {

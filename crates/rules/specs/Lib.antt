@@ -1,15 +1,29 @@
--- The meaning of the rules, in document 01's words and order. What a reader must believe.
+-- The meaning of the rules, in document 01's words: what a reader must believe. Read it in this order with document 01 beside it.
+
+-- "Numbers"
 pub mod Limits
+
+-- "Records and the message store"
 pub mod Tally
 pub mod Records
 pub mod Store
-pub mod Answers
+pub mod Start
+
+-- "Steps" and "Repairs to the printed figure"
+pub mod Idle
 pub mod Events
 pub mod Steps
-pub mod Idle
+
+-- "Refusals"
 pub mod Refusals
-pub mod Start
+
+-- a step whole: "Every step is applied, idle or refused"
+pub mod Answers
 pub mod Step
-pub mod Parts
+
+-- a run, and "Runs to hold it against"
 pub mod Run
 pub mod Table
+
+-- for the contracts of private functions alone
+pub mod Parts

@@ -86,7 +86,7 @@ pub record Sized (g : Group) : Type 0 where
   pub bytes : length (g .bytes) ≡ 3 * greatestSize
   pub flags : length (g .flags) ≡ 3 * greatestSize
 
--- "Records above n, and all records of a group of size 0, have every number 0, no mark, no decision, empty tallies and are down"
+-- "Records above n, and all records of a group of size 0, have every number 0, no mark, no decision, empty tallies and are down; no step changes those above n."
 unfoldable pub blank : Process
 blank =
     record {

@@ -77,7 +77,7 @@ isCut (Pause i) = false
 isCut (Crash i) = false
 isCut (Recover i) = false
 
--- the entry of the delivered message in the store l
+-- the entry of the delivered message in the store l. "A message is for all, its sender included, and may be delivered any number of times": nothing is taken out
 unfoldable pub entryIn : List ℕ → Step → ℕ
 entryIn l s = getD l (slotOf s) 0
 

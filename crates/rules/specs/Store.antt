@@ -8,7 +8,7 @@ use Rattle.rules.specs.declared.process.Message.{Message}
 use Rattle.rules.specs.declared.process.Message.the-variants.{Nothing, E, S, F, Decision}
 use Rattle.rules.specs.Limits.{greatestSize, storeLength}
 
--- "kind k (E 0, S 1, F 2)"
+-- the kinds of messages that have a round
 abbrev pub kindE : ℕ
 kindE = 0
 
@@ -18,7 +18,7 @@ kindS = 1
 abbrev pub kindF : ℕ
 kindF = 2
 
--- "Round r, sender p, kind k stands at (r×16 + p−1)×3 + k"
+-- "Round r, sender p, kind k (E 0, S 1, F 2) stands at (r×16 + p−1)×3 + k"
 abbrev pub slot : ℕ → ℕ → ℕ → ℕ
 slot r p k = (r * greatestSize + (p - 1)) * 3 + k
 
@@ -60,7 +60,7 @@ entryFor i (S r) = entryOf i 0
 entryFor i (F r q v) = entryOf q v
 entryFor i (Decision v) = entryOf i v
 
--- "Handing over writes the entry". The store after process i handed m over
+-- "Handing over writes the entry; entries past 3,088 are never touched." The store after process i handed m over
 unfoldable pub handOver : ℕ → Message → List ℕ → List ℕ
 handOver i Nothing l = l
 handOver i (E r q v) l = set l (placeOf i (E r q v)) (entryFor i (E r q v))
@@ -81,7 +81,7 @@ turned i (S r) l = unsentBit (eqb (getD l (placeOf i (S r)) 0) 0)
 turned i (F r q v) l = unsentBit (eqb (getD l (placeOf i (F r q v)) 0) 0)
 turned i (Decision v) l = unsentBit (eqb (getD l (placeOf i (Decision v)) 0) 0)
 
--- the list l with its first n entries 0 ("The store is cleared"; "entries past 3,088 are never touched")
+-- the list l with its first n entries 0
 unfoldable pub cleared : ℕ → List ℕ → List ℕ
 cleared n l = replicate n 0 ++ drop n l
 
