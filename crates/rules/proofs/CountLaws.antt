@@ -6,17 +6,8 @@ use Prim.Native.Nat.{ℕ, zero, suc, _+_, _≤_, _<_, zero-le}
 use native.Mathlib.Decide.{ℕ-discrete}
 use native.Mathlib.Omega.{arith}
 use Rattle.rules.specs.Limits.{majority}
+use Rattle.rules.specs.Tally.{bitOf, count}
 use Rattle.rules.proofs.BoolLaws.{and-left, and-right}
-
--- 1 where the test holds
-abbrev pub bitOf : Bool → ℕ
-bitOf true = 1
-bitOf false = 0
-
--- how many of 1..n have the property
-unfoldable pub count : (ℕ → Bool) → ℕ → ℕ
-count p zero = 0
-count p (suc n) = count p n + bitOf (p (suc n))
 
 -- properties that agree on 1..n are counted alike
 pub count-ext : (p q : ℕ → Bool) (n : ℕ) → ((j : ℕ) → 1 ≤ j → j ≤ n → q j ≡ p j) → count q n ≡ count p n

@@ -15,19 +15,18 @@ use Rattle.rules.specs.declared.process.Message.{Message}
 use Rattle.rules.specs.declared.process.Message.the-variants.{Nothing, E, S, F, Decision}
 use Rattle.rules.specs.declared.step.Step.{Step}
 use Rattle.rules.specs.declared.step.Step.the-variants.{DeliverE, DeliverS, DeliverF, DeliverDecision, Suspect, Pause, Crash, Recover}
-use Rattle.rules.specs.declared.step.Address.{Address}
 use Rattle.rules.specs.declared.step.Address.the-variants.{Misses, At}
 use Rattle.rules.specs.declared.step.Course.{Course}
 use Rattle.rules.specs.declared.step.Course.the-variants.{Idles, Refuses, Takes}
 use Rattle.rules.specs.Limits.{greatestSize, lastRound, storeLength}
 use Rattle.rules.specs.Records.{processAt, withProcess}
-use Rattle.rules.specs.Store.{slot, decisionSlot, kindE, kindS, kindF, proposerOf, valueOf, placeOf, handOver, turned, unsentBit}
+use Rattle.rules.specs.Store.{proposerOf, placeOf, handOver, turned, unsentBit}
 use Rattle.rules.specs.Answers.{outcome, refused, saysApplied, saysIdle}
-use Rattle.rules.specs.Events.{cutIf, onE, onS, onF, onDecision, onSuspect, onPause, onCrash, onRecover}
+use Rattle.rules.specs.Events.{cutIf}
 use Rattle.rules.specs.Steps.{takerOf, numbersOf, roundOf, delivers, slotOf, isCut, entryIn, eventOf}
-use Rattle.rules.specs.Idle.{idle, idleE, idleS, idleF}
+use Rattle.rules.specs.Idle.{idle}
 use Rattle.rules.specs.Refusals.{row, among, every, short, damaged, strange, late, isRecover, down, unsent, misnamed, maySuspect, impossible, entersPast, refusal}
-use Rattle.rules.specs.Step.{idles, orIdle, unlessRefused, course, handOvers, sentBy, decidesNow, settled, stepped}
+use Rattle.rules.specs.Step.{orIdle, unlessRefused, course, handOvers, sentBy, decidesNow, settled, stepped}
 use Rattle.rules.specs.Parts.{numberRows, unlessMissed, addressOf, heldRows, unlessPast, orPast, orImpossible, orUp, lastCourse, unlessHeld, heldCourse, Ready, Numbered, Handable}
 use Rattle.rules.proofs.RowLaws.{orElse, number-else, held-else, delivered-zero, owned-zero, held-zero}
 use Rattle.rules.proofs.StepLaws.{up-yes, up-no}

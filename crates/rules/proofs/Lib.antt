@@ -11,3 +11,4 @@ pub mod StepLaws
 pub mod CourseLaws
 pub mod Unique
 pub mod Table
+pub mod Safety

@@ -549,7 +549,7 @@ step-by P g l s a b = go (course g l s) (course-fine g l s)
     go (Takes i x) f = b i x f
 
 -- a message that names its proposer has an entry that is not 0
-named-entry : (n i : ℕ) (m : Message) → 1 ≤ i → Named n m → IsMessage m → entryFor i m ≢ 0
+pub named-entry : (n i : ℕ) (m : Message) → 1 ≤ i → Named n m → IsMessage m → entryFor i m ≢ 0
 unfolding entryFor
 named-entry n i Nothing lo h is e = is
 named-entry n i (E r q v) lo h is e = entry-nonzero q v (h .0) e

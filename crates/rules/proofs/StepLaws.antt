@@ -1,12 +1,11 @@
 -- How the tests of a step pick its course. Assumes nothing.
-use mathlib.Core.Path.{_≡_, refl, ap}
+use mathlib.Core.Path.{_≡_}
 use mathlib.Core.Bool.{Bool, true, false}
 use Prim.Native.Nat.{ℕ}
 use lib.Dec.{ltb}
 use Rattle.rules.specs.declared.process.Process.{Process}
 use Rattle.rules.specs.declared.process.Next.{Next}
-use Rattle.rules.specs.declared.step.Course.{Course}
-use Rattle.rules.specs.declared.step.Course.the-variants.{Idles, Refuses, Takes}
+use Rattle.rules.specs.declared.step.Course.the-variants.{Refuses, Takes}
 use Rattle.rules.specs.Limits.{lastRound}
 use Rattle.rules.specs.Events.{cutIf, onSuspect, onRecover}
 use Rattle.rules.specs.Step.{idles, orIdle}

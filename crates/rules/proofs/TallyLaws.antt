@@ -14,8 +14,8 @@ use lib.Dec.{eqb}
 use lib.Pow.{pow-pos, pow-lt, pow-add, mod-pow-add, shl-shr}
 use borrow.Author.Tests.{eq-eqb, ne-eqb, leb-true, ltb-true, lt-ltb}
 use Rattle.rules.specs.Limits.{majority}
-use Rattle.rules.specs.Tally.{holds, joined, meets, within}
-use Rattle.rules.proofs.CountLaws.{bitOf, count, count-ext, count-gain, majorities-meet}
+use Rattle.rules.specs.Tally.{bitOf, count, holds, joined, meets, within}
+use Rattle.rules.proofs.CountLaws.{count-ext, count-gain, majorities-meet}
 
 -- ---- the size as a count
 

@@ -2,28 +2,23 @@
 
 -- "Numbers"
 pub mod Limits
-
 -- "Records and the message store"
 pub mod Tally
 pub mod Records
 pub mod Store
 pub mod Start
-
 -- "Steps" and "Repairs to the printed figure"
 pub mod Idle
 pub mod Events
 pub mod Steps
-
 -- "Refusals"
 pub mod Refusals
-
 -- a step whole: "Every step is applied, idle or refused"
 pub mod Answers
 pub mod Step
-
 -- a run, and "Runs to hold it against"
 pub mod Run
+pub mod Safety
 pub mod Table
-
 -- for the contracts of private functions alone
 pub mod Parts
