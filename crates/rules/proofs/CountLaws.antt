@@ -54,6 +54,19 @@ unfolding count
 count-le p zero = zero-le
 count-le p (suc n) = let ih = count-le p n in omega (arith, bit-le (p (suc n)))
 
+-- of one test
+bit-mono : (a b : Bool) → (a ≡ true → b ≡ true) → bitOf a ≤ bitOf b
+bit-mono true b h = let e : bitOf b ≡ 1 = ap bitOf (h refl) in omega arith
+bit-mono false b h = zero-le
+
+-- a property that follows from another is counted at least as often
+pub count-mono : (p q : ℕ → Bool) (n : ℕ) → ((j : ℕ) → 1 ≤ j → j ≤ n → p j ≡ true → q j ≡ true) → count p n ≤ count q n
+unfolding count
+count-mono p q zero h = zero-le
+count-mono p q (suc n) h =
+    let ih = count-mono p q n (λ j a b. h j a (omega arith)) in
+    omega (arith, bit-mono (p (suc n)) (q (suc n)) (h (suc n) (omega arith) (omega arith)))
+
 -- where anything is counted, here is one
 pub count-some : (p : ℕ → Bool) (n : ℕ) → 0 < count p n → (j : ℕ) × (1 ≤ j) × (j ≤ n) × (p j ≡ true)
 unfolding count

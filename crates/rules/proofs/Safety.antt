@@ -4,3 +4,5 @@ pub mod Cases
 pub mod Stored
 pub mod Entries
 pub mod Sound
+pub mod Handing
+pub mod Tallies

@@ -399,7 +399,7 @@ first-among : (n i : ℕ) (ms : List ℕ) → not (every (among n) (i ∷ ms)) �
 unfolding every
 first-among n i ms e = among-true n i (and-left (among n i) (every (among n) ms) (not-false (among n i && every (among n) ms) e))
 
-second-among : (n i j : ℕ) (ms : List ℕ) → not (every (among n) (i ∷ j ∷ ms)) ≡ false → (1 ≤ j) × (j ≤ n)
+pub second-among : (n i j : ℕ) (ms : List ℕ) → not (every (among n) (i ∷ j ∷ ms)) ≡ false → (1 ≤ j) × (j ≤ n)
 unfolding every
 second-among n i j ms e =
     let rest = every (among n) ms in
