@@ -168,7 +168,8 @@ impl Group {
 
     pub(crate) const THIRD: usize = 2 * Group::GREATEST;
 
-    pub fn greatest() -> usize
+    // The constant is the definitions' limit.
+    pub(crate) fn greatest() -> usize
         ensures { λ r. ⌜ r ≡ limits.greatestSize ⌝ }
     {
         Group::GREATEST

@@ -55,7 +55,8 @@ impl Process {
     // The last round that a process can be in.
     pub const LAST_ROUND: u8 = 63;
 
-    pub fn last_round() -> u8
+    // The constant is the definitions' limit.
+    pub(crate) fn last_round() -> u8
         ensures { λ r. ⌜ r ≡ limits.lastRound ⌝ }
     {
         Process::LAST_ROUND

@@ -22,7 +22,8 @@ impl Store {
 
     pub(crate) const F: usize = 2;
 
-    pub fn length() -> usize
+    // The constant is the definitions' limit.
+    pub(crate) fn length() -> usize
         ensures { λ r. ⌜ r ≡ limits.storeLength ⌝ }
     {
         Store::LENGTH
