@@ -5,7 +5,7 @@ use Prim.Native.Nat.{ℕ}
 use lib.Dec.{ltb}
 use Rattle.rules.specs.declared.process.Process.{Process}
 use Rattle.rules.specs.declared.process.Next.{Next}
-use Rattle.rules.specs.declared.step.Course.the-variants.{Refuses, Takes}
+use Rattle.rules.specs.declared.course.Course.the-variants.{Refuses, Takes}
 use Rattle.rules.specs.Limits.{lastRound}
 use Rattle.rules.specs.Events.{cutIf, onSuspect, onRecover}
 use Rattle.rules.specs.Step.{idles, orIdle}

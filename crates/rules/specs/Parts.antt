@@ -8,10 +8,10 @@ use lib.ListN.{length}
 use Rattle.rules.specs.declared.group.Group.{Group}
 use Rattle.rules.specs.declared.process.Process.{Process}
 use Rattle.rules.specs.declared.process.Next.{Next}
-use Rattle.rules.specs.declared.step.Address.{Address}
-use Rattle.rules.specs.declared.step.Address.the-variants.{Misses, At}
-use Rattle.rules.specs.declared.step.Course.{Course}
-use Rattle.rules.specs.declared.step.Course.the-variants.{Idles, Refuses, Takes}
+use Rattle.rules.specs.declared.course.Address.{Address}
+use Rattle.rules.specs.declared.course.Address.the-variants.{Misses, At}
+use Rattle.rules.specs.declared.course.Course.{Course}
+use Rattle.rules.specs.declared.course.Course.the-variants.{Idles, Refuses, Takes}
 use Rattle.rules.specs.declared.step.Step.{Step}
 use Rattle.rules.specs.declared.step.Step.the-variants.{DeliverE, DeliverS, DeliverF, DeliverDecision, Suspect, Pause, Crash, Recover}
 use Rattle.rules.specs.Limits.{greatestSize, lastRound, storeLength}

@@ -9,8 +9,8 @@ use Rattle.rules.specs.declared.process.Next.{Next}
 use Rattle.rules.specs.declared.step.Step.{Step}
 use Rattle.rules.specs.declared.step.Answer.{Answer}
 use Rattle.rules.specs.declared.step.Taken.{Taken}
-use Rattle.rules.specs.declared.step.Course.{Course}
-use Rattle.rules.specs.declared.step.Course.the-variants.{Idles, Refuses, Takes}
+use Rattle.rules.specs.declared.course.Course.{Course}
+use Rattle.rules.specs.declared.course.Course.the-variants.{Idles, Refuses, Takes}
 use Rattle.rules.specs.Records.{processAt, withProcess, groupOf}
 use Rattle.rules.specs.Store.{handOver, turned}
 use Rattle.rules.specs.Answers.{Outcome, outcome, refused, said, saysApplied, saysIdle}

@@ -2,7 +2,7 @@
 use Rattle.rules.specs.Parts.{heldRows, heldCourse, unlessHeld, lastCourse}
 use Rattle.rules.specs.Refusals.{isRecover}
 use Rattle.rules.specs.Steps.{delivers}
-use Rattle.rules.specs.declared.step.Course.the-variants.{Refuses}
+use Rattle.rules.specs.declared.course.Course.the-variants.{Refuses}
 use Rattle.rules.specs.declared.step.Step.{Step}
 use Rattle.rules.specs.declared.process.Process.{Process}
 use Prim.Native.Nat.{ℕ, zero, suc}

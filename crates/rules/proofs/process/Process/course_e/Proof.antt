@@ -1,5 +1,5 @@
 -- `Process::course_e` meets its contract: idle, or the event. Assumes nothing.
-use Rattle.rules.specs.declared.step.Course.the-variants.{Takes}
+use Rattle.rules.specs.declared.course.Course.the-variants.{Takes}
 use Prim.Native.Nat.{ℕ}
 use Rattle.rules.proofs.StepLaws.{idle-yes, idle-no}
 use Rattle.rules.specs.Events.{onE, cutIf}

@@ -2,7 +2,7 @@
 use Rattle.rules.proofs.StepLaws.{past-idle, past-yes, past-no}
 use Rattle.rules.specs.Events.{onF, cutIf}
 use Rattle.rules.specs.Limits.{lastRound}
-use Rattle.rules.specs.declared.step.Course.the-variants.{Takes}
+use Rattle.rules.specs.declared.course.Course.the-variants.{Takes}
 use Rattle.rules.specs.declared.process.Next.{Next}
 use borrow.Author.Tests.{lt-ltb, le-ltb}
 use lib.Dec.{ltb}

@@ -1,6 +1,6 @@
 -- `Process::course_recover` meets its contract: up, or down. Assumes nothing.
 use Rattle.rules.proofs.StepLaws.{up-yes, up-no}
-use Rattle.rules.specs.declared.step.Course.the-variants.{Takes}
+use Rattle.rules.specs.declared.course.Course.the-variants.{Takes}
 use mathlib.Core.Path.{ap, _∙_}
 use borrow.Author.Needs.{needs}
 use Rattle.rules.proofs.process.Process.course_recover.Statement.{statement}

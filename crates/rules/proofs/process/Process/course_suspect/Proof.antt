@@ -1,5 +1,5 @@
 -- `Process::course_suspect` meets its contract: possible, or refused. Assumes nothing.
-use Rattle.rules.specs.declared.step.Course.the-variants.{Takes}
+use Rattle.rules.specs.declared.course.Course.the-variants.{Takes}
 use Rattle.rules.specs.Events.{cutIf}
 use Rattle.rules.proofs.StepLaws.{possible-yes, possible-no}
 use mathlib.Core.Path.{sym, _∙_, ap}

@@ -2,7 +2,7 @@
 use Rattle.rules.proofs.CourseLaws.{numbers-E, numbers-S, numbers-F, held-names}
 use Rattle.rules.specs.Parts.{lastCourse}
 use Rattle.rules.specs.Steps.{delivers}
-use Rattle.rules.specs.declared.step.Course.the-variants.{Takes}
+use Rattle.rules.specs.declared.course.Course.the-variants.{Takes}
 use native.Mathlib.Omega.{arith}
 use mathlib.Core.Path.{ap}
 use borrow.Author.Needs.{needs}

@@ -8,8 +8,8 @@ use native.Mathlib.Omega.{arith}
 use Prim.Native.Nat.{ℕ}
 use mathlib.Core.Path.{sym, ap, _∙_}
 use borrow.Author.Needs.{needs}
-use Rattle.rules.proofs.step.course_of.Statement.{statement}
-use Rattle.rules.proofs.step.course_of.Tie as tie
+use Rattle.rules.proofs.course.course_of.Statement.{statement}
+use Rattle.rules.proofs.course.course_of.Tie as tie
 
 address-requires : tie.Need-address-requires
 address-requires c κs = sound-facts _ (c .before .pre .sound) .high

@@ -8,8 +8,8 @@ use Prim.Native.Nat.{ℕ}
 use mathlib.Core.Bool.{Bool, true, false, _&&_, not}
 use mathlib.Core.Path.{_≡_, sym, _∙_}
 use borrow.Author.Needs.{needs}
-use Rattle.rules.proofs.step.held_refusal.Statement.{statement}
-use Rattle.rules.proofs.step.held_refusal.Tie as tie
+use Rattle.rules.proofs.course.held_refusal.Statement.{statement}
+use Rattle.rules.proofs.course.held_refusal.Tie as tie
 
 module _ (n : ℕ) (up : Bool) (e : ℕ) (d b : Bool) where
   down : (not b && not up) ≡ true → 5 ≡ heldRows n up e d b

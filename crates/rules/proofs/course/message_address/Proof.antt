@@ -3,8 +3,8 @@ use Rattle.rules.proofs.RowLaws.{among-true}
 use Rattle.rules.specs.Parts.{unlessMissed}
 use Rattle.rules.specs.Refusals.{row, among}
 use Rattle.rules.specs.Limits.{lastRound}
-use Rattle.rules.specs.declared.step.Address.the-variants.{Misses, At}
-use Rattle.rules.specs.declared.step.Address.{Address}
+use Rattle.rules.specs.declared.course.Address.the-variants.{Misses, At}
+use Rattle.rules.specs.declared.course.Address.{Address}
 use borrow.Author.Tests.{lt-ltb, le-ltb, not-true, not-false}
 use lib.Dec.{ltb}
 use native.Mathlib.Omega.{arith}
@@ -12,8 +12,8 @@ use Prim.Native.Nat.{ℕ, _<_, _≤_}
 use mathlib.Core.Bool.{true, false, _&&_, not}
 use mathlib.Core.Path.{_≡_, sym, ap, _∙_}
 use borrow.Author.Needs.{needs}
-use Rattle.rules.proofs.step.message_address.Statement.{statement}
-use Rattle.rules.proofs.step.message_address.Tie as tie
+use Rattle.rules.proofs.course.message_address.Statement.{statement}
+use Rattle.rules.proofs.course.message_address.Tie as tie
 
 module _ (n i j r : ℕ) (a : Address) where
   -- rows 3 and 4

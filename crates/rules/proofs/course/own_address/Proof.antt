@@ -2,16 +2,16 @@
 use Rattle.rules.proofs.RowLaws.{among-true}
 use Rattle.rules.specs.Parts.{unlessMissed}
 use Rattle.rules.specs.Refusals.{row, among}
-use Rattle.rules.specs.declared.step.Address.the-variants.{Misses}
-use Rattle.rules.specs.declared.step.Address.{Address}
+use Rattle.rules.specs.declared.course.Address.the-variants.{Misses}
+use Rattle.rules.specs.declared.course.Address.{Address}
 use borrow.Author.Tests.{not-true, not-false}
 use native.Mathlib.Omega.{arith}
 use Prim.Native.Nat.{ℕ}
 use mathlib.Core.Bool.{true, false, _&&_, not}
 use mathlib.Core.Path.{_≡_, sym, _∙_}
 use borrow.Author.Needs.{needs}
-use Rattle.rules.proofs.step.own_address.Statement.{statement}
-use Rattle.rules.proofs.step.own_address.Tie as tie
+use Rattle.rules.proofs.course.own_address.Statement.{statement}
+use Rattle.rules.proofs.course.own_address.Tie as tie
 
 module _ (n i : ℕ) (a : Address) where
   strange : among n i ≡ false → Misses 3 ≡ unlessMissed (row (not (among n i && true)) 3 0) a

@@ -1,0 +1,364 @@
+// The course of a step: refused by a number, idle, or taken by a process with its next record and messages.
+// It is read off the step, one record taken out by value and one entry; nothing is written here.
+ghost use mathlib.Core.Path.{_≡_};
+ghost use mathlib.Core.Bool.{_&&_, not, true, false};
+ghost use Prim.Native.Nat.{_≤_};
+ghost use Rattle.rules.specs.Limits as limits;
+ghost use lib.Dec.{ltb};
+ghost use Rattle.rules.specs.Records.{groupOf};
+ghost use Rattle.rules.specs.Store as stores;
+ghost use Rattle.rules.specs.Refusals as refusals;
+ghost use Rattle.rules.specs.Idle as idleness;
+ghost use Rattle.rules.specs.Events as events;
+ghost use Rattle.rules.specs.Step as steps;
+ghost use Rattle.rules.specs.Steps.{delivers};
+ghost use Rattle.rules.specs.Parts as parts;
+use crate::group;
+use crate::group::Bytes;
+use crate::group::Flags;
+use crate::group::Halves;
+use crate::group::Words;
+use crate::process::Next;
+use crate::process::Process;
+use crate::step::Step;
+use crate::store::Store;
+
+// The course of a step: idle, refused with a number, or taken by a process with its next record and messages.
+pub enum Course {
+    Idles,
+    Refuses(u8),
+    Takes(u8, Next),
+}
+
+// Where a step leads: refused by a number of its own, or the process that takes it, the place of its message (0 where it delivers none),
+// whether it delivers a message, and whether it recovers a process.
+pub enum Address {
+    Misses(u8),
+    At {
+        taker: u8,
+        place: usize,
+        delivers: bool,
+        recovers: bool,
+    },
+}
+
+// ---- the step alone
+
+// The address of an E, S or F.
+pub(crate) fn message_address(n: u8, to: u32, from: u32, round: u32, kind: usize) -> Address
+    requires { ⌜ (n ≤ limits.greatestSize) × (kind ≤ 2) ⌝ }
+    ensures { λ r. ⌜ r ≡ parts.unlessMissed (refusals.row (not (refusals.among n to && (refusals.among n from && true))) 3 (refusals.row (ltb limits.lastRound round) 4 0)) (Address.At to (stores.slot round from kind) true false) ⌝ }
+{
+    if !group::among(n, to) {
+        return Address::Misses(3);
+    }
+    if !group::among(n, from) {
+        return Address::Misses(3);
+    }
+    if (Process::LAST_ROUND as u32) < round {
+        return Address::Misses(4);
+    }
+    let taker = to as u8;
+    let place = Store::slot(round as u8, from as u8, kind);
+    Address::At {
+        taker,
+        place,
+        delivers: true,
+        recovers: false,
+    }
+}
+
+// The address of a decision.
+pub(crate) fn decision_address(n: u8, to: u32, from: u32) -> Address
+    requires { ⌜ n ≤ limits.greatestSize ⌝ }
+    ensures { λ r. ⌜ r ≡ parts.unlessMissed (refusals.row (not (refusals.among n to && (refusals.among n from && true))) 3 0) (Address.At to (stores.decisionSlot from) true false) ⌝ }
+{
+    if !group::among(n, to) {
+        return Address::Misses(3);
+    }
+    if !group::among(n, from) {
+        return Address::Misses(3);
+    }
+    let taker = to as u8;
+    let place = Store::decision_slot(from as u8);
+    Address::At {
+        taker,
+        place,
+        delivers: true,
+        recovers: false,
+    }
+}
+
+// The address of a step of one process.
+pub(crate) fn own_address(n: u8, process: u32, recovers: bool) -> Address
+    ensures { λ r. ⌜ r ≡ parts.unlessMissed (refusals.row (not (refusals.among n process && true)) 3 0) (Address.At process 0 false recovers) ⌝ }
+{
+    if !group::among(n, process) {
+        return Address::Misses(3);
+    }
+    let taker = process as u8;
+    Address::At {
+        taker,
+        place: 0,
+        delivers: false,
+        recovers: recovers,
+    }
+}
+
+impl Step {
+    // Where the step leads in a group of n: refusals 3 and 4, then what it reads.
+    pub(crate) fn address(self, n: u8) -> Address
+        requires { ⌜ n ≤ limits.greatestSize ⌝ }
+        ensures { λ r. ⌜ r ≡ parts.addressOf n self ⌝ }
+    {
+        match self {
+            Step::DeliverE {
+                to,
+                from,
+                round,
+                cut: _,
+            } => message_address(n, to, from, round, Store::E),
+            Step::DeliverS {
+                to,
+                from,
+                round,
+                cut: _,
+            } => message_address(n, to, from, round, Store::S),
+            Step::DeliverF {
+                to,
+                from,
+                round,
+                cut: _,
+            } => message_address(n, to, from, round, Store::F),
+            Step::DeliverDecision { to, from, cut: _ } => decision_address(n, to, from),
+            Step::Suspect { process, cut: _ } => own_address(n, process, false),
+            Step::Pause { process } => own_address(n, process, false),
+            Step::Crash { process } => own_address(n, process, false),
+            Step::Recover { process } => own_address(n, process, true),
+        }
+    }
+}
+
+// Whether a step meets a process that is down, and does not recover it.
+pub(crate) fn is_down(up: bool, recovers: bool) -> bool
+    ensures { λ r. ⌜ r ≡ (not recovers && not up) ⌝ }
+{
+    !recovers && !up
+}
+
+// Refusals 5, 6 and the entry's 2, or 0.
+pub(crate) fn held_refusal(n: u8, up: bool, entry: u64, delivers: bool, recovers: bool) -> u8
+    ensures { λ r. ⌜ r ≡ parts.heldRows n up entry delivers recovers ⌝ }
+{
+    if is_down(up, recovers) {
+        return 5;
+    }
+    if !delivers {
+        return 0;
+    }
+    if entry == 0 {
+        return 6;
+    }
+    if !group::among(n, (entry / 4294967296) as u32) {
+        return 2;
+    }
+    0
+}
+
+// ---- courses of one process
+
+impl Process {
+    // An idle delivery: nothing, and a crash where it is cut.
+    pub(crate) fn idles(self, i: u8, cut: bool) -> Course
+        ensures { λ r. ⌜ r ≡ steps.idles cut i self ⌝ }
+    {
+        if cut {
+            Course::Takes(i, self.on_crash())
+        } else {
+            Course::Idles
+        }
+    }
+
+    pub(crate) fn course_e(
+        self,
+        n: u8,
+        i: u8,
+        sender: u8,
+        round: u8,
+        entry: u64,
+        cut: bool,
+    ) -> Course
+        requires { ⌜ (1 ≤ n) × (1 ≤ sender) × (sender ≤ limits.greatestSize) × (stores.proposerOf entry ≤ limits.greatestSize) ⌝ }
+        ensures { λ r. ⌜ r ≡ steps.orIdle (idleness.idleE self sender round) cut i self (events.onE n i sender round (stores.proposerOf entry) (stores.valueOf entry) self) ⌝ }
+    {
+        if self.idle_e(sender, round) {
+            return self.idles(i, cut);
+        }
+        let next = self.on_e(
+            n,
+            i,
+            sender,
+            round,
+            Store::proposer_of(entry),
+            Store::value_of(entry),
+        );
+        Course::Takes(i, next.cut_if(cut))
+    }
+
+    pub(crate) fn course_s(self, n: u8, i: u8, sender: u8, round: u8, cut: bool) -> Course
+        requires { ⌜ (1 ≤ sender) × (sender ≤ limits.greatestSize) ⌝ }
+        ensures { λ r. ⌜ r ≡ steps.orIdle (idleness.idleS self sender round) cut i self (events.onS n sender self) ⌝ }
+    {
+        if self.idle_s(sender, round) {
+            return self.idles(i, cut);
+        }
+        let next = self.on_s(n, sender);
+        Course::Takes(i, next.cut_if(cut))
+    }
+
+    // An F that would take the process past the last round is refused.
+    pub(crate) fn course_f(
+        self,
+        n: u8,
+        i: u8,
+        sender: u8,
+        round: u8,
+        entry: u64,
+        cut: bool,
+    ) -> Course
+        requires { ⌜ (1 ≤ n) × (1 ≤ sender) × (sender ≤ limits.greatestSize) × (self .round ≤ limits.lastRound) × (round ≤ limits.lastRound) × (stores.proposerOf entry ≤ limits.greatestSize) ⌝ }
+        ensures { λ r. ⌜ r ≡ parts.orPast (idleness.idleF self sender round) cut i self (events.onF n i sender round (stores.proposerOf entry) (stores.valueOf entry) self) ⌝ }
+    {
+        if self.idle_f(sender, round) {
+            return self.idles(i, cut);
+        }
+        let next = self.on_f(
+            n,
+            i,
+            sender,
+            round,
+            Store::proposer_of(entry),
+            Store::value_of(entry),
+        );
+        if Process::LAST_ROUND < next.process.round {
+            return Course::Refuses(8);
+        }
+        Course::Takes(i, next.cut_if(cut))
+    }
+
+    pub(crate) fn course_decision(self, i: u8, entry: u64, cut: bool) -> Course
+        ensures { λ r. ⌜ r ≡ steps.orIdle (self .decided) cut i self (events.onDecision (stores.valueOf entry) self) ⌝ }
+    {
+        if self.decided {
+            return self.idles(i, cut);
+        }
+        let next = self.on_decision(Store::value_of(entry));
+        Course::Takes(i, next.cut_if(cut))
+    }
+
+    // A recovery of a process that is up is refused.
+    pub(crate) fn course_recover(self, i: u8) -> Course
+        ensures { λ r. ⌜ r ≡ parts.orUp (self .up) i self ⌝ }
+    {
+        if self.up {
+            return Course::Refuses(7);
+        }
+        Course::Takes(i, self.on_recover())
+    }
+
+    // The course of a step that none of 11 to the entry's 2 stops.
+    pub(crate) fn last_course(self, n: u8, i: u8, entry: u64, step: Step) -> Course
+        requires { ⌜ parts.Numbered n self step × (parts.heldRows n (self .up) entry (delivers step) (refusals.isRecover step) ≡ 0) ⌝ }
+        ensures { λ r. ⌜ r ≡ parts.lastCourse n i entry self step ⌝ }
+    {
+        match step {
+            Step::DeliverE {
+                to: _,
+                from,
+                round,
+                cut,
+            } => self.course_e(n, i, from as u8, round as u8, entry, cut),
+            Step::DeliverS {
+                to: _,
+                from,
+                round,
+                cut,
+            } => self.course_s(n, i, from as u8, round as u8, cut),
+            Step::DeliverF {
+                to: _,
+                from,
+                round,
+                cut,
+            } => self.course_f(n, i, from as u8, round as u8, entry, cut),
+            Step::DeliverDecision {
+                to: _,
+                from: _,
+                cut,
+            } => self.course_decision(i, entry, cut),
+            Step::Suspect { process: _, cut } => self.course_suspect(i, cut),
+            Step::Pause { process: _ } => Course::Takes(i, self.on_pause()),
+            Step::Crash { process: _ } => Course::Takes(i, self.on_crash()),
+            Step::Recover { process: _ } => self.course_recover(i),
+        }
+    }
+
+    // The course of a step that none of 11 to 4 stops.
+    pub(crate) fn course(
+        self,
+        n: u8,
+        i: u8,
+        entry: u64,
+        delivering: bool,
+        recovering: bool,
+        step: Step,
+    ) -> Course
+        requires { ⌜ parts.Numbered n self step × (delivering ≡ delivers step) × (recovering ≡ refusals.isRecover step) ⌝ }
+        ensures { λ r. ⌜ r ≡ parts.heldCourse n i entry self step ⌝ }
+    {
+        let refusal = held_refusal(n, self.up, entry, delivering, recovering);
+        if refusal != 0 {
+            return Course::Refuses(refusal);
+        }
+        self.last_course(n, i, entry, step)
+    }
+
+    // A suspicion that is not possible is refused.
+    pub(crate) fn course_suspect(self, i: u8, cut: bool) -> Course
+        ensures { λ r. ⌜ r ≡ parts.orImpossible (refusals.maySuspect self) cut i self ⌝ }
+    {
+        if self.may_suspect() {
+            return Course::Takes(i, self.on_suspect().cut_if(cut));
+        }
+        Course::Refuses(7)
+    }
+}
+
+// ---- the course of a step over lent arrays, which it only reads
+
+pub(crate) fn course_of(
+    n: u8,
+    words: &Words,
+    halves: &Halves,
+    bytes: &Bytes,
+    flags: &Flags,
+    store: &[u64],
+    step: Step,
+) -> Course
+    requires { ⌜ parts.Ready (groupOf n (now words) (now halves) (now bytes) (now flags)) (now store) ⌝ }
+    ensures { λ r. ⌜ r ≡ steps.course (groupOf n (now (words .entry)) (now (halves .entry)) (now (bytes .entry)) (now (flags .entry))) (now (store .entry)) step ⌝ }
+{
+    let address = step.address(n);
+    match address {
+        Address::Misses(number) => Course::Refuses(number),
+        Address::At {
+            taker,
+            place,
+            delivers,
+            recovers,
+        } => {
+            let entry = store[place];
+            let p = group::take_out(words, halves, bytes, flags, taker);
+            p.course(n, taker, entry, delivers, recovers, step)
+        }
+    }
+}
