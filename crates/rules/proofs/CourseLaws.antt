@@ -18,19 +18,20 @@ use Rattle.rules.specs.declared.step.Step.the-variants.{DeliverE, Delive
 use Rattle.rules.specs.declared.course.Address.the-variants.{Misses, At}
 use Rattle.rules.specs.declared.course.Course.{Course}
 use Rattle.rules.specs.declared.course.Course.the-variants.{Idles, Refuses, Takes}
-use Rattle.rules.specs.Limits.{greatestSize, lastRound, storeLength}
+use Rattle.rules.specs.Limits.{greatestSize, lastRound, storeLength, among}
 use Rattle.rules.specs.Records.{processAt, withProcess}
-use Rattle.rules.specs.Store.{proposerOf, placeOf, handOver, turned, unsentBit}
+use Rattle.rules.specs.Store.{proposerOf, placeOf, handOver, turned}
 use Rattle.rules.specs.Answers.{outcome, refused, saysApplied, saysIdle}
 use Rattle.rules.specs.Events.{cutIf}
 use Rattle.rules.specs.Steps.{takerOf, numbersOf, roundOf, delivers, slotOf, isCut, entryIn, eventOf}
 use Rattle.rules.specs.Idle.{idle}
-use Rattle.rules.specs.Refusals.{row, among, every, short, damaged, strange, late, isRecover, down, unsent, misnamed, maySuspect, impossible, entersPast, refusal}
+use Rattle.rules.specs.Refusals.{row, every, short, damaged, strange, late, isRecover, down, unsent, misnamed, maySuspect, impossible, entersPast, refusal}
 use Rattle.rules.specs.Step.{orIdle, unlessRefused, course, handOvers, sentBy, decidesNow, settled, stepped}
 use Rattle.rules.specs.Parts.{numberRows, unlessMissed, addressOf, heldRows, unlessPast, orPast, orImpossible, orUp, lastCourse, unlessHeld, heldCourse, Ready, Numbered, Handable}
 use Rattle.rules.proofs.RowLaws.{orElse, number-else, held-else, delivered-zero, owned-zero, held-zero}
 use Rattle.rules.proofs.StepLaws.{up-yes, up-no}
 use Rattle.rules.proofs.SoundLaws.{sound-facts, Fine, course-fine}
+use Rattle.rules.specs.Tally.{bitOf}
 
 -- the rows that are left to every step: 7 and 8
 abbrev rest : Group → List ℕ → Step → ℕ
@@ -263,7 +264,7 @@ held-names n up e s h d z =
 
 -- ---- the outcome of a course
 
-unsent-small : (b : Bool) → unsentBit b ≤ 1
+unsent-small : (b : Bool) → bitOf b ≤ 1
 unsent-small true = omega arith
 unsent-small false = omega arith
 

@@ -6,10 +6,10 @@ use native.Mathlib.Omega.{arith}
 use lib.Dec.{eqb, leb, ltb}
 use borrow.Author.Tests.{leb-true, le-leb, ltb-false, not-false}
 use Rattle.rules.specs.declared.step.Step.{Step}
-use Rattle.rules.specs.Limits.{lastRound}
+use Rattle.rules.specs.Limits.{lastRound, among}
 use Rattle.rules.specs.Store.{proposerOf}
 use Rattle.rules.specs.Steps.{numbersOf}
-use Rattle.rules.specs.Refusals.{row, among, every, late}
+use Rattle.rules.specs.Refusals.{row, every, late}
 use Rattle.rules.specs.Parts.{numberRows, heldRows}
 use Rattle.rules.proofs.BoolLaws.{and-left, and-right, and-both}
 

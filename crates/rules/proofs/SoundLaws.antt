@@ -19,7 +19,7 @@ use Rattle.rules.specs.declared.step.Step.{Step}
 use Rattle.rules.specs.declared.step.Step.the-variants.{DeliverE, DeliverS, DeliverF, DeliverDecision, Suspect, Pause, Crash, Recover}
 use Rattle.rules.specs.declared.course.Course.{Course}
 use Rattle.rules.specs.declared.course.Course.the-variants.{Idles, Refuses, Takes}
-use Rattle.rules.specs.Limits.{greatestSize, lastRound, storeLength, coordinator}
+use Rattle.rules.specs.Limits.{greatestSize, lastRound, storeLength, coordinator, among}
 use Rattle.rules.specs.Tally.{meets, within}
 use Rattle.rules.specs.Records.{processAt, withProcess, Sized, blankGroup}
 use Rattle.rules.specs.Store.{proposerOf, valueOf, messageRound, entryFor, handOver, sentIn}
@@ -27,7 +27,7 @@ use Rattle.rules.specs.Answers.{Outcome, refused}
 use Rattle.rules.specs.Events.{takes, enters, joinsEstimates, joinsSuspicions, decides, secondPhase, marks, paused, crashed, recovered, quiet, changed, jumpsIf, jumps, relaysIf, relays, decidesIf, decidesAt, goesToPhase2, goesToPhase2If, toPhase2, adoptsIf, adopts, opensIf, opens, entersNextIf, entersNextAt, onE, onS, onF, onDecision, onSuspect, onPause, onCrash, onRecover, cutIf}
 use Rattle.rules.specs.Steps.{takerOf, numbersOf, roundOf, delivers, isCut, entryIn, eventOf}
 use Rattle.rules.specs.Idle.{idle}
-use Rattle.rules.specs.Refusals.{row, among, allOf, every, short, whole, damaged, strange, late, down, unsent, misnamed, impossible, entersPast, refusal, miscounted, startRefusal}
+use Rattle.rules.specs.Refusals.{row, allOf, every, short, whole, damaged, strange, late, down, unsent, misnamed, impossible, entersPast, refusal, miscounted, startRefusal}
 use Rattle.rules.specs.Step.{idles, orIdle, unlessRefused, course, handOvers, sentBy, settled, stepped}
 use Rattle.rules.specs.Start.{fresh, startedTo, unlessRefusedStart, begun, started}
 use Rattle.rules.proofs.BoolLaws.{and-left, and-right, and-both, or-case}

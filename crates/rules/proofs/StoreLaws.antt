@@ -12,7 +12,8 @@ use Rattle.rules.specs.declared.process.Message.{Message}
 use Rattle.rules.specs.declared.process.Message.the-variants.{Nothing, E, S, F, Decision}
 use Rattle.rules.specs.Limits.{greatestSize, lastRound, storeLength}
 use Rattle.rules.specs.Start.{firstMessage, opened}
-use Rattle.rules.specs.Store.{slot, decisionSlot, entryOf, proposerOf, valueOf, placeOf, messageRound, entryFor, handOver, unsentBit, turned, cleared, sentBit, sentIn}
+use Rattle.rules.specs.Store.{slot, decisionSlot, entryOf, proposerOf, valueOf, placeOf, messageRound, entryFor, handOver, turned, cleared, sentBit, sentIn}
+use Rattle.rules.specs.Tally.{bitOf}
 
 -- ---- places
 
@@ -155,7 +156,7 @@ place-lt i (Decision v) a b = omega arith
 
 -- what is true of the store itself, and of the store with the entry written, is true after handing over; so of the store with the number that turned
 pub handing : (P : List ℕ → ℕ → Type 0) (i : ℕ) (m : Message) (l : List ℕ) → (¬ IsMessage m → P l 0)
-    → (IsMessage m → P (set l (placeOf i m) (entryFor i m)) (unsentBit (eqb (getD l (placeOf i m) 0) 0)))
+    → (IsMessage m → P (set l (placeOf i m) (entryFor i m)) (bitOf (eqb (getD l (placeOf i m) 0) 0)))
     → P (handOver i m l) (turned i m l)
 unfolding handOver turned
 handing P i Nothing l a b = a (λ x. x)
@@ -165,7 +166,7 @@ handing P i (F r q v) l a b = b tt
 handing P i (Decision v) l a b = b tt
 
 -- an entry that turns from 0 and one that is sent make 1
-turn-bits : (e : ℕ) → unsentBit (eqb e 0) + sentBit e ≡ 1
+turn-bits : (e : ℕ) → bitOf (eqb e 0) + sentBit e ≡ 1
 turn-bits zero = refl
 turn-bits (suc e) = rw (eqb·suc-zero e)
 
@@ -230,8 +231,8 @@ module _ (v : ℕ) (l : List ℕ) (long : storeLength ≤ length l) where
   unfolding opened messageRound entryFor turned placeOf
   opened-sent =
       let room = cleared-length storeLength l long in
-      let unsent : unsentBit (eqb (getD (cleared storeLength l) 0 0) 0) ≡ 1 =
-      ap (λ (e : ℕ). unsentBit (eqb e 0)) (cleared-below storeLength l 0 (omega arith)) in
+      let unsent : bitOf (eqb (getD (cleared storeLength l) 0 0) 0) ≡ 1 =
+      ap (λ (e : ℕ). bitOf (eqb e 0)) (cleared-below storeLength l 0 (omega arith)) in
       omega (
         arith,
         handOver-sent 1 (firstMessage v) (cleared storeLength l) (omega arith) (omega arith) (omega arith) (λ is. entry-nonzero 1 v (omega arith)),

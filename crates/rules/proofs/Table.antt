@@ -12,7 +12,7 @@ use Rattle.rules.specs.Events.{adoptsIf, adopts, opensIf, opens, entersN
 use Rattle.rules.specs.Events.{onCrash, onRecover, cutIf}
 use Rattle.rules.specs.Steps.{takerOf, numbersOf, roundOf, delivers, slotOf, isCut, entryIn, eventOf}
 use Rattle.rules.specs.Idle.{pastFor, at, idleE, idleS, idleF, idle}
-use Rattle.rules.specs.Refusals.{row, among, allOf, every, short, miscounted, whole, damaged, strange, late, isRecover, down, unsent}
+use Rattle.rules.specs.Refusals.{row, allOf, every, short, miscounted, whole, damaged, strange, late, isRecover, down, unsent}
 use Rattle.rules.specs.Refusals.{misnamed, maySuspect, impossible, entersPast, startRefusal, refusal}
 use Rattle.rules.specs.Start.{fresh, startedTo, opened, begun, unlessRefusedStart, started}
 use Rattle.rules.specs.Step.{idles, orIdle, unlessRefused, course, handOvers, sentBy, decidesNow, settled, stepped}
@@ -20,6 +20,7 @@ use Rattle.rules.specs.Run.{startState}
 use Rattle.rules.specs.Table.{sameSaid, looks, looksIn, allLook, allStand, goesOn, holdsOne, holdsAll, runAbove, oneDecides}
 use Rattle.rules.specs.Table.{oneEntersRound1, repeatIsIdle, suspectTwice, crashTwice, recoverWhileUp, refusedOfSixteen, seventeenth}
 use Rattle.rules.specs.Table.{round64, round63, fiveProcesses, relayedAgain, table}
+use Rattle.rules.specs.Limits.{among}
 
 -- the single statement
 pub table-holds : holdsAll table ≡ true

@@ -1,9 +1,15 @@
 -- Document 01, "Numbers": the limits, the majority, the coordinator. Assumes nothing.
+use mathlib.Core.Bool.{Bool, _&&_}
 use Prim.Native.Nat.{ℕ, _+_, _/_, _%_}
+use lib.Dec.{leb}
 
 -- "Processes 1 to n, n from 1 to 16."
 abbrev pub greatestSize : ℕ
 greatestSize = 16
+
+-- the number m is one of 1..n
+unfoldable pub among : ℕ → ℕ → Bool
+among n m = leb 1 m && leb m n
 
 -- "Rounds 0 to 63."
 abbrev pub lastRound : ℕ

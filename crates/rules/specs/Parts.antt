@@ -14,12 +14,12 @@ use Rattle.rules.specs.declared.course.Course.{Course}
 use Rattle.rules.specs.declared.course.Course.the-variants.{Idles, Refuses, Takes}
 use Rattle.rules.specs.declared.step.Step.{Step}
 use Rattle.rules.specs.declared.step.Step.the-variants.{DeliverE, DeliverS, DeliverF, DeliverDecision, Suspect, Pause, Crash, Recover}
-use Rattle.rules.specs.Limits.{greatestSize, lastRound, storeLength}
+use Rattle.rules.specs.Limits.{greatestSize, lastRound, storeLength, among}
 use Rattle.rules.specs.Store.{proposerOf, valueOf, messageRound}
 use Rattle.rules.specs.Events.{onE, onS, onF, onDecision, onSuspect, onPause, onCrash, onRecover, cutIf}
 use Rattle.rules.specs.Steps.{takerOf, numbersOf, delivers, slotOf}
 use Rattle.rules.specs.Idle.{idleE, idleS, idleF}
-use Rattle.rules.specs.Refusals.{row, among, every, damaged, late, isRecover, maySuspect}
+use Rattle.rules.specs.Refusals.{row, every, damaged, late, isRecover, maySuspect}
 use Rattle.rules.specs.Step.{idles, orIdle}
 
 -- ---- the step alone: rows 3 and 4, then who takes it, where its message stands, whether it delivers one, whether it recovers

@@ -2,14 +2,13 @@
 -- "A process has: its first value; round; phase (1 or 2); estimate (a proposer and a value); suspicion mark; decision or none; up or down; and two tallies,
 -- estimates heard and suspicions heard." This is the struct `Process`: `decision` is one where `decided` is true, and none otherwise.
 use mathlib.Core.Path.{_≡_}
-use mathlib.Core.Bool.{Bool, true, false, _&&_}
+use mathlib.Core.Bool.{Bool, true, false}
 use mathlib.Core.List.{List}
 use Prim.Native.Nat.{ℕ, _+_, _-_, _*_}
-use lib.Dec.{leb}
 use lib.ListN.{length, getD, set, replicate}
 use Rattle.rules.specs.declared.group.Group.{Group}
 use Rattle.rules.specs.declared.process.Process.{Process}
-use Rattle.rules.specs.Limits.{greatestSize}
+use Rattle.rules.specs.Limits.{greatestSize, among}
 
 -- "All but the tallies and up/down is the *stored record*."
 pub record Stored : Type 0 where
@@ -109,7 +108,7 @@ recordIf false g i = blank
 
 -- the record of process i for everybody outside: a blank one where i is not 1 to 16
 unfoldable pub recordOf : Group → ℕ → Process
-recordOf g i = recordIf (leb 1 i && leb i greatestSize) g i
+recordOf g i = recordIf (among greatestSize i) g i
 
 -- a group of size n with every record blank
 unfoldable pub blankGroup : ℕ → Group

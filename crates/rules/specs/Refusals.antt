@@ -8,7 +8,7 @@ use Rattle.rules.specs.declared.group.Group.{Group}
 use Rattle.rules.specs.declared.process.Process.{Process}
 use Rattle.rules.specs.declared.step.Step.{Step}
 use Rattle.rules.specs.declared.step.Step.the-variants.{DeliverE, DeliverS, DeliverF, DeliverDecision, Suspect, Pause, Crash, Recover}
-use Rattle.rules.specs.Limits.{greatestSize, lastRound, storeLength}
+use Rattle.rules.specs.Limits.{greatestSize, lastRound, storeLength, among}
 use Rattle.rules.specs.Tally.{within}
 use Rattle.rules.specs.Records.{processAt}
 use Rattle.rules.specs.Store.{proposerOf}
@@ -19,10 +19,6 @@ use Rattle.rules.specs.Idle.{idle}
 unfoldable pub row : Bool → ℕ → ℕ → ℕ
 row true k rest = k
 row false k rest = rest
-
--- the number m is one of 1..n
-unfoldable pub among : ℕ → ℕ → Bool
-among n m = leb 1 m && leb m n
 
 -- p holds of each of 1..n
 unfoldable pub allOf : (ℕ → Bool) → ℕ → Bool

@@ -1,5 +1,5 @@
 -- A run: any finite list of steps from a start, with what was handed over. Assumes nothing.
--- That refusal 6 comes "exactly when neither the start nor any earlier applied step handed that message over" is to be said of `handedFrom`.
+-- That refusal 6 comes "exactly when neither the start nor any earlier applied step handed that message over" is said of `handedFrom`, in Safety.
 use mathlib.Core.Bool.{Bool, true, false}
 use mathlib.Core.List.{List, [], _∷_, _++_}
 use Prim.Native.Nat.{ℕ}

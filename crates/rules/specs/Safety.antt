@@ -1,4 +1,4 @@
--- What holds of every run, stated over the definitions that the contracts of start and step cite. The proofs are in proofs/safety. Assumes nothing.
+-- What holds of every run, stated over the definitions that the contracts of start and step cite. The proofs are in proofs/Safety. Assumes nothing.
 use mathlib.Core.Path.{_≡_}
 use mathlib.Core.Bool.{Bool, true, false, not}
 use mathlib.Core.List.{List, [], _∷_, _++_}
@@ -94,7 +94,7 @@ cut (Pause i) = Pause i
 cut (Crash i) = Crash i
 cut (Recover i) = Recover i
 
--- recovered, it has the stored record that it had when it went down: a is the state right after it did
+-- recovered, it has the stored record that it had when it went down: the state after ss is the one right after it did
 abbrev pub Recovery : Type 0
 Recovery = EveryRun λ vs l ss. (ts : List Step) (i : ℕ) → Of vs i → DownThrough (at vs l ss) ts i
     → stored (processOf (next (after (at vs l ss) ts) (Recover i)) i) ≡ stored (processOf (at vs l ss) i)

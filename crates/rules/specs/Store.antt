@@ -7,6 +7,7 @@ use lib.ListN.{getD, set, drop, replicate}
 use Rattle.rules.specs.declared.process.Message.{Message}
 use Rattle.rules.specs.declared.process.Message.the-variants.{Nothing, E, S, F, Decision}
 use Rattle.rules.specs.Limits.{greatestSize, storeLength}
+use Rattle.rules.specs.Tally.{bitOf}
 
 -- the kinds of messages that have a round
 abbrev pub kindE : ℕ
@@ -68,18 +69,13 @@ handOver i (S r) l = set l (placeOf i (S r)) (entryFor i (S r))
 handOver i (F r q v) l = set l (placeOf i (F r q v)) (entryFor i (F r q v))
 handOver i (Decision v) l = set l (placeOf i (Decision v)) (entryFor i (Decision v))
 
--- "0 means not sent." 1 where an entry is 0, and so turns when it is written
-abbrev pub unsentBit : Bool → ℕ
-unsentBit true = 1
-unsentBit false = 0
-
--- how many entries turn from 0 as process i hands m over
+-- "0 means not sent." How many entries turn from 0 as process i hands m over
 unfoldable pub turned : ℕ → Message → List ℕ → ℕ
 turned i Nothing l = 0
-turned i (E r q v) l = unsentBit (eqb (getD l (placeOf i (E r q v)) 0) 0)
-turned i (S r) l = unsentBit (eqb (getD l (placeOf i (S r)) 0) 0)
-turned i (F r q v) l = unsentBit (eqb (getD l (placeOf i (F r q v)) 0) 0)
-turned i (Decision v) l = unsentBit (eqb (getD l (placeOf i (Decision v)) 0) 0)
+turned i (E r q v) l = bitOf (eqb (getD l (placeOf i (E r q v)) 0) 0)
+turned i (S r) l = bitOf (eqb (getD l (placeOf i (S r)) 0) 0)
+turned i (F r q v) l = bitOf (eqb (getD l (placeOf i (F r q v)) 0) 0)
+turned i (Decision v) l = bitOf (eqb (getD l (placeOf i (Decision v)) 0) 0)
 
 -- the list l with its first n entries 0
 unfoldable pub cleared : ℕ → List ℕ → List ℕ

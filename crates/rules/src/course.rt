@@ -47,7 +47,7 @@ pub enum Address {
 // The address of an E, S or F.
 pub(crate) fn message_address(n: u8, to: u32, from: u32, round: u32, kind: usize) -> Address
     requires { ⌜ (n ≤ limits.greatestSize) × (kind ≤ 2) ⌝ }
-    ensures { λ r. ⌜ r ≡ parts.unlessMissed (refusals.row (not (refusals.among n to && (refusals.among n from && true))) 3 (refusals.row (ltb limits.lastRound round) 4 0)) (Address.At to (stores.slot round from kind) true false) ⌝ }
+    ensures { λ r. ⌜ r ≡ parts.unlessMissed (refusals.row (not (limits.among n to && (limits.among n from && true))) 3 (refusals.row (ltb limits.lastRound round) 4 0)) (Address.At to (stores.slot round from kind) true false) ⌝ }
 {
     if !group::among(n, to) {
         return Address::Misses(3);
@@ -71,7 +71,7 @@ pub(crate) fn message_address(n: u8, to: u32, from: u32, round: u32, kind: usize
 // The address of a decision.
 pub(crate) fn decision_address(n: u8, to: u32, from: u32) -> Address
     requires { ⌜ n ≤ limits.greatestSize ⌝ }
-    ensures { λ r. ⌜ r ≡ parts.unlessMissed (refusals.row (not (refusals.among n to && (refusals.among n from && true))) 3 0) (Address.At to (stores.decisionSlot from) true false) ⌝ }
+    ensures { λ r. ⌜ r ≡ parts.unlessMissed (refusals.row (not (limits.among n to && (limits.among n from && true))) 3 0) (Address.At to (stores.decisionSlot from) true false) ⌝ }
 {
     if !group::among(n, to) {
         return Address::Misses(3);
@@ -91,7 +91,7 @@ pub(crate) fn decision_address(n: u8, to: u32, from: u32) -> Address
 
 // The address of a step of one process.
 pub(crate) fn own_address(n: u8, process: u32, recovers: bool) -> Address
-    ensures { λ r. ⌜ r ≡ parts.unlessMissed (refusals.row (not (refusals.among n process && true)) 3 0) (Address.At process 0 false recovers) ⌝ }
+    ensures { λ r. ⌜ r ≡ parts.unlessMissed (refusals.row (not (limits.among n process && true)) 3 0) (Address.At process 0 false recovers) ⌝ }
 {
     if !group::among(n, process) {
         return Address::Misses(3);
@@ -159,7 +159,7 @@ pub(crate) fn held_refusal(n: u8, up: bool, entry: u64, delivers: bool, recovers
     if entry == 0 {
         return 6;
     }
-    if !group::among(n, (entry / 4294967296) as u32) {
+    if !group::among(n, (entry / Store::VALUES) as u32) {
         return 2;
     }
     0

@@ -92,7 +92,7 @@ pub(crate) fn put_back(
 
 // Whether m is one of 1..n.
 pub(crate) fn among(n: u8, m: u32) -> bool
-    ensures { λ r. ⌜ r ≡ refusals.among n m ⌝ }
+    ensures { λ r. ⌜ r ≡ limits.among n m ⌝ }
 {
     1 <= m && m <= n as u32
 }

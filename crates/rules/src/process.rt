@@ -1,7 +1,6 @@
 // The record of one process, and what it does with each kind of event.
 // A method takes the record by value and gives back the next one, with the messages that it hands over. Knows no group and no store.
 ghost use mathlib.Core.Path.{_≡_};
-ghost use mathlib.Core.Bool.{not};
 ghost use Prim.Native.Nat.{_≤_};
 ghost use Rattle.rules.specs.Limits as limits;
 ghost use Rattle.rules.specs.Records as records;

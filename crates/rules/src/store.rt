@@ -5,6 +5,7 @@ ghost use lib.Dec.{eqb};
 ghost use lib.ListN.{length, getD, set};
 ghost use Rattle.rules.specs.Limits as limits;
 ghost use Rattle.rules.specs.Store as stores;
+ghost use Rattle.rules.specs.Tally.{bitOf};
 use crate::group::Group;
 use crate::process::Message;
 
@@ -14,6 +15,9 @@ pub struct Store {}
 impl Store {
     // How many entries a store has. What lies past them is never touched.
     pub const LENGTH: usize = 3088;
+
+    // How many values there are: an entry is its proposer times this, and its value.
+    pub(crate) const VALUES: u64 = 4294967296;
 
     // The kinds of messages that have a round.
     pub(crate) const E: usize = 0;
@@ -49,7 +53,7 @@ impl Store {
     pub(crate) fn entry_of(proposer: u8, value: u32) -> u64
         ensures { λ r. ⌜ r ≡ stores.entryOf proposer value ⌝ }
     {
-        (proposer as u64) * 4294967296 + (value as u64)
+        (proposer as u64) * Store::VALUES + (value as u64)
     }
 
     // The proposer of an entry that names one of 1..16, and the value of any entry.
@@ -57,19 +61,19 @@ impl Store {
         requires { ⌜ stores.proposerOf entry ≤ limits.greatestSize ⌝ }
         ensures { λ r. ⌜ r ≡ stores.proposerOf entry ⌝ }
     {
-        (entry / 4294967296) as u8
+        (entry / Store::VALUES) as u8
     }
 
     pub(crate) fn value_of(entry: u64) -> u32
         ensures { λ r. ⌜ r ≡ stores.valueOf entry ⌝ }
     {
-        (entry % 4294967296) as u32
+        (entry % Store::VALUES) as u32
     }
 
     // Writes an entry, and answers 1 where it turns from 0.
     pub(crate) fn write(store: &mut [u64], at: usize, entry: u64) -> u8
         requires { ⌜ at < length (now store) ⌝ }
-        ensures { λ r. ⌜ (now (store .exit) ≡ set (now (store .entry)) at entry) × (r ≡ stores.unsentBit (eqb (getD (now (store .entry)) at 0) 0)) ⌝ }
+        ensures { λ r. ⌜ (now (store .exit) ≡ set (now (store .entry)) at entry) × (r ≡ bitOf (eqb (getD (now (store .entry)) at 0) 0)) ⌝ }
     {
         let old = store[at];
         store[at] = entry;

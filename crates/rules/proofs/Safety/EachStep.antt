@@ -16,13 +16,13 @@ use Rattle.rules.specs.declared.step.Step.{Step}
 use Rattle.rules.specs.declared.step.Step.the-variants.{DeliverE, DeliverS, DeliverF, DeliverDecision, Suspect, Pause, Crash, Recover}
 use Rattle.rules.specs.declared.course.Course.{Course}
 use Rattle.rules.specs.declared.course.Course.the-variants.{Idles, Refuses, Takes}
-use Rattle.rules.specs.Limits.{greatestSize, lastRound}
+use Rattle.rules.specs.Limits.{greatestSize, lastRound, among}
 use Rattle.rules.specs.Tally.{holds}
 use Rattle.rules.specs.Records.{processAt, withProcess}
 use Rattle.rules.specs.Store.{slot, decisionSlot, kindE, kindF}
 use Rattle.rules.specs.Steps.{takerOf, numbersOf, roundOf, delivers, slotOf, isCut, entryIn, eventOf}
 use Rattle.rules.specs.Idle.{pastFor, at, idleE, idleS, idleF, idle}
-use Rattle.rules.specs.Refusals.{among, every, strange, late, unsent, refusal}
+use Rattle.rules.specs.Refusals.{every, strange, late, unsent, refusal}
 use Rattle.rules.specs.Step.{idles, orIdle, unlessRefused, course, settled, stepped}
 use Rattle.rules.specs.Run.{State, next}
 use Rattle.rules.proofs.BoolLaws.{or-left, or-right}

@@ -18,11 +18,11 @@ use Rattle.rules.specs.declared.step.Step.{Step}
 use Rattle.rules.specs.declared.step.Step.the-variants.{DeliverE, DeliverS, DeliverF, DeliverDecision, Suspect, Pause, Crash, Recover}
 use Rattle.rules.specs.declared.course.Course.{Course}
 use Rattle.rules.specs.declared.course.Course.the-variants.{Idles, Refuses, Takes}
-use Rattle.rules.specs.Limits.{greatestSize, lastRound, storeLength}
+use Rattle.rules.specs.Limits.{greatestSize, lastRound, storeLength, among}
 use Rattle.rules.specs.Store.{kindE, kindS, kindF, placeOf, messageRound, handOver, cleared}
 use Rattle.rules.specs.Start.{firstMessage, opened, begun}
 use Rattle.rules.specs.Steps.{numbersOf, roundOf, delivers, slotOf, entryIn}
-use Rattle.rules.specs.Refusals.{row, among, every, short, damaged, strange, late, down, unsent, misnamed, impossible, entersPast, refusal}
+use Rattle.rules.specs.Refusals.{row, every, short, damaged, strange, late, down, unsent, misnamed, impossible, entersPast, refusal}
 use Rattle.rules.specs.Step.{course, handOvers, settled, stepped}
 use Rattle.rules.specs.Run.{State, startState, next, after, Handed, handed, one, handedByCourse, handedBy, handedIn, handedFrom}
 use Rattle.rules.specs.Safety.{Begins, at, Delivers, Among, RefusalSix}

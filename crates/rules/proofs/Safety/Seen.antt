@@ -15,11 +15,10 @@ use Rattle.rules.specs.declared.process.Process.{Process}
 use Rattle.rules.specs.declared.process.Next.{Next}
 use Rattle.rules.specs.declared.process.Message.{Message}
 use Rattle.rules.specs.declared.process.Message.the-variants.{Nothing, E, S, F, Decision}
-use Rattle.rules.specs.Limits.{greatestSize, lastRound, storeLength, majority}
+use Rattle.rules.specs.Limits.{greatestSize, lastRound, storeLength, majority, among}
 use Rattle.rules.specs.Tally.{holds, joined, meets, count}
 use Rattle.rules.specs.Records.{processAt, withProcess, Sized, recordIf, recordOf}
 use Rattle.rules.specs.Store.{slot, decisionSlot, kindE, kindF, entryOf, placeOf, messageRound, entryFor, handOver}
-use Rattle.rules.specs.Refusals.{among}
 use Rattle.rules.specs.Step.{handOvers}
 use Rattle.rules.proofs.BoolLaws.{and-left, and-right, and-both}
 use Rattle.rules.proofs.RowLaws.{among-true, among-in}
@@ -174,13 +173,13 @@ view vs g l =
 
 -- a record put in
 pub record-in : (g : Group) (i : ℕ) → 1 ≤ i → i ≤ greatestSize → recordOf g i ≡ processAt g i
-unfolding recordOf recordIf
+unfolding recordOf recordIf among
 record-in g i a b = ap (λ (t : Bool). recordIf t g i) (and-both (leb 1 i) (leb i greatestSize) (le-leb 1 i a) (le-leb i greatestSize b))
 
 module _ (g : Group) (i : ℕ) (p : Process) (sized : Sized g) (low : 1 ≤ i) (high : i ≤ greatestSize) where
   -- at any other place
   record-other : (j : ℕ) → i ≢ j → recordOf (withProcess g i p) j ≡ recordOf g j
-  unfolding recordOf recordIf
+  unfolding recordOf recordIf among
   record-other j ne = go (leb 1 j && leb j greatestSize) refl
     where
       go : (t : Bool) → (leb 1 j && leb j greatestSize) ≡ t → recordIf t (withProcess g i p) j ≡ recordIf t g j

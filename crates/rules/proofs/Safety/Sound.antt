@@ -18,14 +18,14 @@ use Rattle.rules.specs.declared.process.Message.the-variants.{Nothing, E
 use Rattle.rules.specs.declared.step.Step.{Step}
 use Rattle.rules.specs.declared.step.Step.the-variants.{DeliverE, DeliverS, DeliverF, DeliverDecision, Suspect, Pause, Crash, Recover}
 use Rattle.rules.specs.declared.course.Course.{Course}
-use Rattle.rules.specs.Limits.{greatestSize, storeLength}
+use Rattle.rules.specs.Limits.{greatestSize, storeLength, among}
 use Rattle.rules.specs.Tally.{holds}
 use Rattle.rules.specs.Records.{processAt, Sized}
 use Rattle.rules.specs.Store.{entryOf, proposerOf, valueOf, entryFor}
 use Rattle.rules.specs.Start.{fresh, startedTo, opened, begun}
 use Rattle.rules.specs.Events.{takes, enters, joinsEstimates, joinsSuspicions, decides, secondPhase, marks, paused, crashed, recovered, quiet, changed, jumpsIf, jumps, relaysIf, relays, decidesIf, decidesAt, goesToPhase2, goesToPhase2If, toPhase2, adoptsIf, adopts, opensIf, opens, entersNextIf, entersNextAt, onE, onS, onF, onDecision, onSuspect, onPause, onCrash, onRecover, cutIf}
 use Rattle.rules.specs.Steps.{takerOf, isCut, delivers, slotOf, entryIn, eventOf}
-use Rattle.rules.specs.Refusals.{row, among, short, damaged, strange, late, down, unsent, misnamed, impossible, entersPast, refusal}
+use Rattle.rules.specs.Refusals.{row, short, damaged, strange, late, down, unsent, misnamed, impossible, entersPast, refusal}
 use Rattle.rules.specs.Step.{handOvers, settled, stepped}
 use Rattle.rules.specs.Parts.{numberRows}
 use Rattle.rules.specs.Run.{State, startState, next}

@@ -19,7 +19,7 @@ use Rattle.rules.specs.declared.step.Step.{Step}
 use Rattle.rules.specs.declared.step.Step.the-variants.{DeliverE, DeliverS, DeliverF, DeliverDecision, Suspect, Pause, Crash, Recover}
 use Rattle.rules.specs.declared.course.Course.{Course}
 use Rattle.rules.specs.declared.course.Course.the-variants.{Idles, Refuses, Takes}
-use Rattle.rules.specs.Limits.{greatestSize, lastRound, storeLength, majority, coordinator}
+use Rattle.rules.specs.Limits.{greatestSize, lastRound, storeLength, majority, coordinator, among}
 use Rattle.rules.specs.Tally.{count, holds, joined, meets}
 use Rattle.rules.specs.Records.{processAt, withProcess, Sized}
 use Rattle.rules.specs.Store.{slot, kindE, kindS, kindF, proposerOf, valueOf, placeOf, messageRound, entryFor, handOver}
@@ -27,7 +27,7 @@ use Rattle.rules.specs.Start.{fresh, startedTo, opened, begun}
 use Rattle.rules.specs.Events.{takes, enters, joinsEstimates, joinsSuspicions, decides, secondPhase, marks, paused, crashed, recovered, quiet, changed, jumpsIf, jumps, relaysIf, relays, decidesIf, decidesAt, goesToPhase2, goesToPhase2If, toPhase2, adoptsIf, adopts, entersNextIf, entersNextAt, onE, onS, onF, onDecision, onSuspect, onPause, onCrash, onRecover, cutIf}
 use Rattle.rules.specs.Steps.{takerOf, numbersOf, delivers, isCut, slotOf, entryIn, eventOf}
 use Rattle.rules.specs.Idle.{pastFor, idleE, idleS, idleF, idle, at as inPhase}
-use Rattle.rules.specs.Refusals.{among, every, strange, unsent}
+use Rattle.rules.specs.Refusals.{every, strange, unsent}
 use Rattle.rules.specs.Step.{course, handOvers, settled, stepped}
 use Rattle.rules.specs.Run.{State, startState, next}
 use Rattle.rules.specs.Safety.{Begins, at, processOf, TalliesHeard, DecidesWithMajority, Phase2WithMajority, NextRoundWithMajority}

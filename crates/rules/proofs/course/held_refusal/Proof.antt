@@ -1,6 +1,6 @@
 -- `held_refusal` meets its contract: its tests are rows 5, 6 and 2, in their order. Assumes nothing.
 use Rattle.rules.specs.Parts.{heldRows}
-use Rattle.rules.specs.Refusals.{row, among}
+use Rattle.rules.specs.Refusals.{row}
 use Rattle.rules.specs.Store.{proposerOf}
 use borrow.Author.Tests.{eq-eqb, ne-eqb, not-true, not-false}
 use lib.Dec.{eqb}
@@ -9,6 +9,7 @@ use mathlib.Core.Bool.{Bool, true, false, _&&_, not}
 use mathlib.Core.Path.{_≡_, sym, _∙_}
 use borrow.Author.Needs.{needs}
 use Rattle.rules.proofs.course.held_refusal.Statement.{statement}
+use Rattle.rules.specs.Limits.{among}
 use Rattle.rules.proofs.course.held_refusal.Tie as tie
 
 module _ (n : ℕ) (up : Bool) (e : ℕ) (d b : Bool) where

@@ -1,8 +1,8 @@
 -- `message_address` meets its contract: its tests are rows 3 and 4, in their order. Assumes nothing.
 use Rattle.rules.proofs.RowLaws.{among-true}
 use Rattle.rules.specs.Parts.{unlessMissed}
-use Rattle.rules.specs.Refusals.{row, among}
-use Rattle.rules.specs.Limits.{lastRound}
+use Rattle.rules.specs.Refusals.{row}
+use Rattle.rules.specs.Limits.{lastRound, among}
 use Rattle.rules.specs.declared.course.Address.the-variants.{Misses, At}
 use Rattle.rules.specs.declared.course.Address.{Address}
 use borrow.Author.Tests.{lt-ltb, le-ltb, not-true, not-false}

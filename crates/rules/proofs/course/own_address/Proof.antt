@@ -1,7 +1,7 @@
 -- `own_address` meets its contract: its test is row 3. Assumes nothing.
 use Rattle.rules.proofs.RowLaws.{among-true}
 use Rattle.rules.specs.Parts.{unlessMissed}
-use Rattle.rules.specs.Refusals.{row, among}
+use Rattle.rules.specs.Refusals.{row}
 use Rattle.rules.specs.declared.course.Address.the-variants.{Misses}
 use Rattle.rules.specs.declared.course.Address.{Address}
 use borrow.Author.Tests.{not-true, not-false}
@@ -11,6 +11,7 @@ use mathlib.Core.Bool.{true, false, _&&_, not}
 use mathlib.Core.Path.{_≡_, sym, _∙_}
 use borrow.Author.Needs.{needs}
 use Rattle.rules.proofs.course.own_address.Statement.{statement}
+use Rattle.rules.specs.Limits.{among}
 use Rattle.rules.proofs.course.own_address.Tie as tie
 
 module _ (n i : ℕ) (a : Address) where

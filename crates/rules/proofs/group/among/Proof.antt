@@ -1,10 +1,11 @@
 -- `among` meets its contract: the two tests are the definition's. Assumes nothing.
-use Rattle.rules.specs.Refusals.{among}
+
 use borrow.Author.Tests.{le-leb, lt-leb}
 use lib.Dec.{leb}
 use mathlib.Core.Bool.{Bool, _&&_}
 use mathlib.Core.Path.{ap, sym, _∙_}
 use Rattle.rules.proofs.group.among.Statement.{statement}
+use Rattle.rules.specs.Limits.{among}
 use Rattle.rules.proofs.group.among.Tie as tie
 
 returns : tie.Need-returns

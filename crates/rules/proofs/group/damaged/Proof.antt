@@ -1,7 +1,7 @@
 -- `damaged` meets its contract: before each turn `sound` says whether the processes passed of 1..n are whole. Assumes nothing.
 use Rattle.rules.proofs.RowLaws.{among-in}
 use Rattle.rules.proofs.AllLaws.{all-none}
-use Rattle.rules.specs.Refusals.{allOf, among, whole, damaged}
+use Rattle.rules.specs.Refusals.{allOf, whole, damaged}
 use Rattle.rules.specs.Records.{processAt, groupOf}
 use Rattle.rules.specs.declared.group.Group.{Group}
 use borrow.Author.Tests.{lt-leb, leb-true, leb-false}
@@ -12,6 +12,7 @@ use Prim.Native.Nat.{ℕ, _+_, _≤_, _<_, _-_, min}
 use mathlib.Core.Bool.{Bool, true, false, _&&_, _||_, not, and-false}
 use mathlib.Core.Path.{_≡_, refl, sym, ap, ap₂, _∙_}
 use Rattle.rules.proofs.group.damaged.Statement.{statement}
+use Rattle.rules.specs.Limits.{among}
 use Rattle.rules.proofs.group.damaged.Tie as tie
 
 -- process i of g is whole

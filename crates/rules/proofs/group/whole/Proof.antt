@@ -1,7 +1,8 @@
 -- `whole` meets its contract: it joins the parts of the definition. Assumes nothing.
-use Rattle.rules.specs.Refusals.{among, whole}
+use Rattle.rules.specs.Refusals.{whole}
 use borrow.Author.Needs.{needs}
 use Rattle.rules.proofs.group.whole.Statement.{statement}
+use Rattle.rules.specs.Limits.{among}
 use Rattle.rules.proofs.group.whole.Tie as tie
 
 is-phase-requires : tie.Need-is-phase-requires

@@ -1,6 +1,5 @@
 -- `Group::process` meets its contract: the test of the number picks the case of the definition. Assumes nothing.
 use Rattle.rules.proofs.RowLaws.{among-true}
-use Rattle.rules.specs.Refusals.{among}
 use Rattle.rules.specs.Records.{processAt, recordOf, recordIf, blank}
 use Rattle.rules.specs.declared.group.Group.{Group}
 use borrow.Author.Tests.{not-true, not-false}
@@ -10,6 +9,7 @@ use mathlib.Core.Bool.{true, false}
 use mathlib.Core.Path.{_≡_, sym, _∙_}
 use borrow.Author.Needs.{needs}
 use Rattle.rules.proofs.group.Group.process.Statement.{statement}
+use Rattle.rules.specs.Limits.{among}
 use Rattle.rules.proofs.group.Group.process.Tie as tie
 
 outside : (g : Group) (i : ℕ) → among 16 i ≡ false → blank ≡ recordOf g i

@@ -1,10 +1,10 @@
 -- `Group::start` meets its contract: the two refusals in their order, then the records and the store. Assumes nothing.
 use Rattle.rules.proofs.RowLaws.{among-in}
 use Rattle.rules.specs.Start.{begun, unlessRefusedStart, started}
-use Rattle.rules.specs.Refusals.{row, among, short, miscounted, startRefusal}
+use Rattle.rules.specs.Refusals.{row, short, miscounted, startRefusal}
 use Rattle.rules.specs.Answers.{outcome, refused, said, saysApplied}
 use Rattle.rules.specs.Records.{blankGroup}
-use Rattle.rules.specs.Limits.{storeLength}
+use Rattle.rules.specs.Limits.{storeLength, among}
 use Rattle.rules.specs.declared.group.Group.{Group}
 use borrow.Author.Tests.{lt-ltb, le-ltb, lt-leb}
 use lib.ListN.{length}

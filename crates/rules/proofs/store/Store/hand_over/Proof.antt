@@ -1,5 +1,5 @@
 -- `Store::hand_over` meets its contract: each kind of message is written at its place, with its entry. Assumes nothing.
-use Rattle.rules.specs.Store.{slot, messageRound, handOver, turned, unsentBit, placeOf, entryFor}
+use Rattle.rules.specs.Store.{slot, messageRound, handOver, turned, placeOf, entryFor}
 use Rattle.rules.specs.declared.process.Message.{Message}
 use lib.ListN.{getD, set}
 use lib.Dec.{eqb}
@@ -9,16 +9,17 @@ use mathlib.Core.List.{List}
 use mathlib.Core.Path.{_≡_, ap, _∙_}
 use borrow.Author.Needs.{needs}
 use Rattle.rules.proofs.store.Store.hand_over.Statement.{statement}
+use Rattle.rules.specs.Tally.{bitOf}
 use Rattle.rules.proofs.store.Store.hand_over.Tie as tie
 
 -- a write at a message's place of its entry hands the message over
 module _ (i : ℕ) (l : List ℕ) where
   wrote : (m : Message) {last : List ℕ} {sent at e : ℕ}
       → handOver i m l ≡ set l (placeOf i m) (entryFor i m)
-      → turned i m l ≡ unsentBit (eqb (getD l (placeOf i m) 0) 0)
+      → turned i m l ≡ bitOf (eqb (getD l (placeOf i m) 0) 0)
       → at ≡ placeOf i m
       → e ≡ entryFor i m
-      → (last ≡ set l at e) × (sent ≡ unsentBit (eqb (getD l at 0) 0))
+      → (last ≡ set l at e) × (sent ≡ bitOf (eqb (getD l at 0) 0))
       → (last ≡ handOver i m l) × (sent ≡ turned i m l)
   wrote m h t a b w = (w .0 ∙ rw (h, a, b), w .1 ∙ rw (t, a))
 

@@ -1,9 +1,10 @@
 -- `Store::write` meets its contract: the old entry is 0 or it is not. Assumes nothing.
-use Rattle.rules.specs.Store.{unsentBit}
+
 use borrow.Author.Tests.{eq-eqb, ne-eqb}
 use mathlib.Core.Path.{refl, sym, ap}
 use borrow.Author.Needs.{needs}
 use Rattle.rules.proofs.store.Store.write.Statement.{statement}
+use Rattle.rules.specs.Tally.{bitOf}
 use Rattle.rules.proofs.store.Store.write.Tie as tie
 
 mul-old : tie.Need-mul-old
@@ -22,13 +23,13 @@ same-length : tie.Need-same-length
 same-length c = search needs
 
 returns : tie.Need-returns
-returns c = (refl, sym (ap unsentBit (eq-eqb _ 0 (c .if1 .taken))))
+returns c = (refl, sym (ap bitOf (eq-eqb _ 0 (c .if1 .taken))))
 
 same-length-2 : tie.Need-same-length-2
 same-length-2 c = search needs
 
 returns-2 : tie.Need-returns-2
-returns-2 c = (refl, sym (ap unsentBit (ne-eqb _ 0 (c .if1 .left))))
+returns-2 c = (refl, sym (ap bitOf (ne-eqb _ 0 (c .if1 .left))))
 
 pub write-spec : {M : Type 1} → statement M
 write-spec =
