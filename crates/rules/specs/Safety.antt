@@ -201,24 +201,24 @@ abbrev pub TalliesHeard : Type 0
 TalliesHeard = EveryRun λ vs l ss. (i j : ℕ) → Of vs i → Of vs j → Heard (at vs l ss) i j
 
 -- which processes have sent their message of round r and kind k
-abbrev pub sentBy : State → ℕ → ℕ → ℕ → Bool
-sentBy a r k j = not (eqb (getD (a .store) (slot r j k) 0) 0)
+abbrev pub hasSent : State → ℕ → ℕ → ℕ → Bool
+hasSent a r k j = not (eqb (getD (a .store) (slot r j k) 0) 0)
 
 -- what repair 2 is for: a decision by E, a move to phase 2 by S and a next round each happen with a majority of distinct senders who sent that message
 abbrev pub DecidesWithMajority : Type 0
 DecidesWithMajority = EveryRun λ vs l ss. (i j r : ℕ) (c : Bool) → Of vs i
     → processOf (at vs l ss) i .decided ≡ false → processOf (next (at vs l ss) (DeliverE i j r c)) i .decided ≡ true
-    → majority (length vs) ≤ count (sentBy (at vs l ss) r kindE) (length vs)
+    → majority (length vs) ≤ count (hasSent (at vs l ss) r kindE) (length vs)
 
 abbrev pub Phase2WithMajority : Type 0
 Phase2WithMajority = EveryRun λ vs l ss. (i j r : ℕ) (c : Bool) → Of vs i
     → processOf (at vs l ss) i .phase ≡ 1 → processOf (next (at vs l ss) (DeliverS i j r c)) i .phase ≡ 2
-    → majority (length vs) ≤ count (sentBy (at vs l ss) r kindS) (length vs)
+    → majority (length vs) ≤ count (hasSent (at vs l ss) r kindS) (length vs)
 
 abbrev pub NextRoundWithMajority : Type 0
 NextRoundWithMajority = EveryRun λ vs l ss. (i j r : ℕ) (c : Bool) → Of vs i
     → processOf (at vs l ss) i .round ≤ r → processOf (next (at vs l ss) (DeliverF i j r c)) i .round ≡ r + 1
-    → majority (length vs) ≤ count (sentBy (at vs l ss) r kindF) (length vs)
+    → majority (length vs) ≤ count (hasSent (at vs l ss) r kindF) (length vs)
 
 -- ---- demand 3, in its words
 
