@@ -110,7 +110,7 @@ pub(crate) fn finish(
 }
 
 // One step of a group that is not damaged over a store that is not short.
-pub(crate) fn step_sound(
+pub fn step_sound(
     n: u8,
     words: &mut Words,
     halves: &mut Halves,

@@ -1,0 +1,145 @@
+-- The cases of words, numbers, line ends and step lines, as the code comes to them. Assumes nothing.
+use Prim.Native.Nat.{ℕ, _+_, _≤_, _<_}
+use mathlib.Core.Path.{_≡_, refl, sym, ap, _∙_}
+use mathlib.Core.Bool.{Bool, true, false}
+use mathlib.Core.List.{List}
+use mathlib.Core.Logic.{_≢_}
+use native.Mathlib.Numerals.{add-one}
+use lib.Dec.{ltb}
+use lib.ListN.{length, getD, drop, drop-of-length-le}
+use lib.Seq.{drop-cons}
+use borrow.Author.Tests.{lt-ltb, le-ltb, eq-eqb, ne-eqb}
+use Rattle.rules.specs.declared.step.Step.{Step}
+use Rattle.schedule.specs.Number.{numberAt}
+use Rattle.schedule.specs.Lines.{Item, broken, item}
+use Rattle.schedule.specs.Line.{End, noEnd, ends, onEnd, numbersAfter, mayCut, stepOf, spacedAt, nextNumber, endAt, afterLetter, lineAt}
+use Rattle.schedule.specs.Header.{wordAt, aloneAt}
+use Rattle.schedule.specs.Parts.{placeAfter, placeOfEnd}
+use Rattle.schedule.specs.declared.number.Number.the-variants.{Bad, Value}
+use Rattle.schedule.specs.declared.header.Word.the-variants.{Missing, Past}
+
+module _ (s : List ℕ) (at : ℕ) where
+  -- ---- a space and a number
+  pub spaced-is : getD s at 0 ≡ 32 → spacedAt s at ≡ numberAt s (at + 1)
+  unfolding spacedAt
+  spaced-is e = rw e
+
+  pub spaced-not : getD s at 0 ≢ 32 → spacedAt s at ≡ Bad
+  unfolding spacedAt
+  spaced-not n = rw (ne-eqb (getD s at 0) 32 n)
+
+  pub next-wanted : {wanted : Bool} → wanted ≡ true → nextNumber s at wanted ≡ spacedAt s at
+  unfolding nextNumber
+  next-wanted e = rw e
+
+  pub next-none : {wanted : Bool} → wanted ≡ false → nextNumber s at wanted ≡ Value 0 at
+  unfolding nextNumber
+  next-none e = rw e
+
+  -- ---- a number alone on the rest of its line
+  pub alone-none : spacedAt s at ≡ Bad → aloneAt s at ≡ Bad
+  unfolding aloneAt
+  alone-none e = rw e
+
+  pub alone-more : {v n : ℕ} → spacedAt s at ≡ Value v n → getD s n 0 ≢ 10 → aloneAt s at ≡ Bad
+  unfolding aloneAt
+  alone-more {v} {n} e f = rw (e, ne-eqb (getD s n 0) 10 f)
+
+  pub alone-is : {v n : ℕ} → spacedAt s at ≡ Value v n → getD s n 0 ≡ 10 → aloneAt s at ≡ Value v (n + 1)
+  unfolding aloneAt
+  alone-is e f = rw (e, f)
+
+  -- ---- the end of a line
+  pub end-plain : (may : Bool) → getD s at 0 ≡ 10 → endAt s at may ≡ ends false (at + 1)
+  unfolding endAt
+  end-plain may e = rw e
+
+  pub end-uncut : {may : Bool} → getD s at 0 ≢ 10 → may ≡ false → endAt s at may ≡ noEnd
+  unfolding endAt
+  end-uncut n f = rw (ne-eqb (getD s at 0) 10 n, f)
+
+  pub end-other : {may : Bool} → getD s at 0 ≢ 10 → may ≡ true → getD s at 0 ≢ 32 → endAt s at may ≡ noEnd
+  unfolding endAt
+  end-other n f m = rw (ne-eqb (getD s at 0) 10 n, f, ne-eqb (getD s at 0) 32 m)
+
+  pub end-no-x : {may : Bool} → may ≡ true → getD s at 0 ≡ 32 → getD s (at + 1) 0 ≢ 88 → endAt s at may ≡ noEnd
+  unfolding endAt
+  end-no-x f e n = rw (f, e, ne-eqb (getD s (at + 1) 0) 88 n)
+
+  pub end-no-lf : {may : Bool} → may ≡ true → getD s at 0 ≡ 32 → getD s (at + 1) 0 ≡ 88 → getD s (at + 2) 0 ≢ 10 → endAt s at may ≡ noEnd
+  unfolding endAt
+  end-no-lf f e x n = rw (f, e, x, ne-eqb (getD s (at + 2) 0) 10 n)
+
+  pub end-cut : {may : Bool} → may ≡ true → getD s at 0 ≡ 32 → getD s (at + 1) 0 ≡ 88 → getD s (at + 2) 0 ≡ 10 → endAt s at may ≡ ends true (at + 3)
+  unfolding endAt
+  end-cut f e x l = rw (f, e, x, l)
+
+-- ---- a step line, of which b is the letter and count says how many numbers follow
+module _ (s : List ℕ) (at : ℕ) {b count : ℕ} (letter : getD s at 0 ≡ b) (numbers : count ≡ numbersAfter b) where
+  pub line-other : count ≡ 0 → lineAt s at ≡ broken
+  unfolding lineAt
+  line-other z = rw (letter, ← numbers, z)
+
+  module _ (some : count ≢ 0) where
+    line-letter : lineAt s at ≡ afterLetter b s (at + 1)
+    unfolding lineAt
+    line-letter = rw (letter, ← numbers, ne-eqb count 0 some)
+
+    pub line-no-first : spacedAt s (at + 1) ≡ Bad → lineAt s at ≡ broken
+    unfolding afterLetter
+    line-no-first e = line-letter ∙ rw (next-wanted s (at + 1) refl, e)
+
+    module _ {i n : ℕ} (first : spacedAt s (at + 1) ≡ Value i n) where
+      pub line-no-second : nextNumber s n (ltb 1 count) ≡ Bad → lineAt s at ≡ broken
+      unfolding afterLetter
+      line-no-second e = line-letter ∙ rw (next-wanted s (at + 1) refl, first, ← numbers, e)
+
+      module _ {j m : ℕ} (second : nextNumber s n (ltb 1 count) ≡ Value j m) where
+        pub line-no-third : nextNumber s m (ltb 2 count) ≡ Bad → lineAt s at ≡ broken
+        unfolding afterLetter
+        line-no-third e = line-letter ∙ rw (next-wanted s (at + 1) refl, first, ← numbers, second, e)
+
+        -- all its numbers are there: what is read is what its end says
+        module _ {r l : ℕ} (third : nextNumber s m (ltb 2 count) ≡ Value r l) where
+          pub line-numbers : lineAt s at ≡ onEnd (endAt s l (mayCut b)) broken (λ x e. item (stepOf b i j r x) e)
+          unfolding afterLetter
+          line-numbers = line-letter ∙ rw (next-wanted s (at + 1) refl, first, ← numbers, second, third)
+
+          pub line-place : {may : Bool} → may ≡ mayCut b → placeAfter (lineAt s at) ≡ placeOfEnd (endAt s l may)
+          unfolding placeAfter placeOfEnd
+          line-place q = ap placeAfter line-numbers ∙ go (endAt s l (mayCut b)) ∙ ap (λ (x : Bool). placeOfEnd (endAt s l x)) (sym q)
+            where
+              go : (e : End) → placeAfter (onEnd e broken (λ x k. item (stepOf b i j r x) k)) ≡ placeOfEnd e
+              go noEnd = refl
+              go (ends x k) = refl
+
+pub broken-place : {x : Item Step} → x ≡ broken → placeAfter x ≡ 0
+unfolding placeAfter
+broken-place e = rw e
+
+pub no-place : {e : End} → e ≡ noEnd → placeOfEnd e ≡ 0
+unfolding placeOfEnd
+no-place p = rw p
+
+pub end-place : {e : End} {x : Bool} {m : ℕ} → e ≡ ends x m → placeOfEnd e ≡ m
+unfolding placeOfEnd
+end-place p = rw p
+
+-- ---- one byte of a word, as the loop goes
+module _ (s w : List ℕ) (place i : ℕ) where
+  pub word-done : length w ≤ i → wordAt s place (drop i w) ≡ Past place
+  unfolding wordAt
+  word-done h = ap (wordAt s place) (drop-of-length-le w h)
+
+  pub word-past : i < length w → length s ≤ place → wordAt s place (drop i w) ≡ Missing
+  unfolding wordAt
+  word-past h g = ap (wordAt s place) (drop-cons w i 0 h) ∙ rw (le-ltb place (length s) g)
+
+  pub word-other : i < length w → place < length s → getD s place 0 ≢ getD w i 0 → wordAt s place (drop i w) ≡ Missing
+  unfolding wordAt
+  word-other h g n = ap (wordAt s place) (drop-cons w i 0 h) ∙ rw (lt-ltb place (length s) g, ne-eqb (getD s place 0) (getD w i 0) n)
+
+  pub word-more : i < length w → place < length s → getD s place 0 ≡ getD w i 0 → wordAt s place (drop i w) ≡ wordAt s (place + 1) (drop (i + 1) w)
+  unfolding wordAt
+  word-more h g e = ap (wordAt s place) (drop-cons w i 0 h)
+      ∙ rw (lt-ltb place (length s) g, eq-eqb (getD s place 0) (getD w i 0) e) (ap (λ (k : ℕ). wordAt s (place + 1) (drop k w)) (sym (add-one i)))

@@ -1,0 +1,76 @@
+-- Each return is one case of the definition: too long a file, a faulty opening, a faulty section, or a sound file. Assumes nothing.
+use mathlib.Core.Path.{_≡_, sym, _∙_}
+use lib.ListN.{length, length-map}
+use borrow.Author.Needs.{needs}
+use Rattle.schedule.proofs.ReadLaws.{opening-few, form-long, form-opening, form-sections, form-good}
+use Rattle.schedule.proofs.file.form_of.Statement.{statement}
+use Rattle.schedule.proofs.file.form_of.Tie as tie
+
+no-form-requires : tie.Need-no-form-requires
+no-form-requires c κs = search needs
+
+returns : tie.Need-returns
+returns c = form-long _ _ (c .before .if1 .taken) (c .no-form .ensures)
+
+last-end-requires : tie.Need-last-end-requires
+last-end-requires c κs = search needs
+
+read-opening-requires : tie.Need-read-opening-requires
+read-opening-requires c κs = search needs
+
+no-form-requires-2 : tie.Need-no-form-requires-2
+no-form-requires-2 c κs = search needs
+
+returns-2 : tie.Need-returns-2
+returns-2 c =
+    form-opening _ _ (c .before .before .before .before .read-opening .ensures) _ (c .before .before .before .before .before .before .if1 .left)
+    (c .before .if2 .taken) (c .no-form2 .ensures)
+
+read-sections-requires : tie.Need-read-sections-requires
+read-sections-requires c κs =
+    (c .before .before .before .before .before .last-end .ensures, opening-few _ _ (c .before .before .before .before .read-opening .ensures) (c .before .if2 .left))
+
+enum-known-places : tie.Need-enum-known-places
+enum-known-places c = search needs
+
+enum-known-fault : tie.Need-enum-known-fault
+enum-known-fault c = search needs
+
+no-form-requires-3 : tie.Need-no-form-requires-3
+no-form-requires-3 c κs = search needs
+
+-- the opening's array has all its 16 places
+values-long : (c : tie.After-read-opening) → length (c .read-opening .result .values) ≡ 16
+values-long c = sym (length-map (c .read-opening .result .values) (λ v. v)) ∙ c .read-opening .ok .1 .1 .1 .1 .0 .1 .0 .1
+
+returns-3 : tie.Need-returns-3
+returns-3 c =
+    form-good _ _ (c .before .before .before .before .before .before .before .before .read-opening .ensures)
+    (c .before .before .before .before .before .if2 .left) (c .before .before .before .before .before .before .before .before .before .before .if1 .left)
+    (values-long (c .before .before .before .before .before .before .before .before)) (c .before .before .before .read-sections .ensures)
+    (c .before .places .given .1)
+
+returns-4 : tie.Need-returns-4
+returns-4 c =
+    form-sections _ _ (c .before .before .before .before .before .before .before .before .before .read-opening .ensures)
+    (c .before .before .before .before .before .before .if2 .left)
+    (c .before .before .before .before .before .before .before .before .before .before .before .if1 .left)
+    (values-long (c .before .before .before .before .before .before .before .before .before)) (c .before .before .before .before .read-sections .ensures) _
+    (c .before .before .fault2 .given .1) (c .no-form3 .ensures)
+
+pub form-of-spec : {M : Type 1} → statement M
+form-of-spec =
+    tie.close
+    (tie.spec
+    no-form-requires
+    returns
+    last-end-requires
+    read-opening-requires
+    no-form-requires-2
+    returns-2
+    read-sections-requires
+    enum-known-places
+    enum-known-fault
+    no-form-requires-3
+    returns-3
+    returns-4)

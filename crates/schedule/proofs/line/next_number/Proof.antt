@@ -1,0 +1,18 @@
+-- `line::next_number` meets its contract: the flag says which case of `nextNumber` holds. Assumes nothing.
+use mathlib.Core.Path.{sym, _∙_}
+use Rattle.schedule.proofs.LineCases.{next-wanted, next-none}
+use borrow.Author.Needs.{needs}
+use Rattle.schedule.proofs.line.next_number.Statement.{statement}
+use Rattle.schedule.proofs.line.next_number.Tie as tie
+
+spaced-at-requires : tie.Need-spaced-at-requires
+spaced-at-requires c κs = search needs
+
+returns : tie.Need-returns
+returns c = c .spaced-at .ensures ∙ sym (next-wanted _ _ (c .before .if1 .taken))
+
+returns-2 : tie.Need-returns-2
+returns-2 c = sym (next-none _ _ (c .if1 .left))
+
+pub next-number-spec : {M : Type 1} → statement M
+next-number-spec = tie.close (tie.spec spaced-at-requires returns returns-2)

@@ -1,0 +1,27 @@
+-- `line::spaced_at` meets its contract: the test says which case of `spacedAt` holds. Assumes nothing.
+use mathlib.Core.Path.{sym, _∙_}
+use native.Mathlib.Omega.{arith}
+use Rattle.schedule.proofs.AheadLaws.{ahead-past}
+use Rattle.schedule.proofs.LineCases.{spaced-is, spaced-not}
+use borrow.Author.Needs.{needs}
+use Rattle.schedule.proofs.line.spaced_at.Statement.{statement}
+use Rattle.schedule.proofs.line.spaced_at.Tie as tie
+
+shared-slice-read-if1 : tie.Need-shared-slice-read-if1
+shared-slice-read-if1 c = search needs
+
+add-decimal-at : tie.Need-add-decimal-at
+add-decimal-at c = search needs
+
+decimal-at-requires : tie.Need-decimal-at-requires
+decimal-at-requires c κs = ahead-past (c .before .before .before .pre) (c .if1 .taken) (λ z. omega arith)
+
+returns : tie.Need-returns
+returns c = c .decimal-at .ensures ∙ sym (spaced-is _ _ (c .before .if1 .taken))
+
+returns-2 : tie.Need-returns-2
+returns-2 c = sym (spaced-not _ _ (c .if1 .left))
+
+pub spaced-at-spec : {M : Type 1} → statement M
+spaced-at-spec =
+    tie.close (tie.spec shared-slice-read-if1 add-decimal-at decimal-at-requires returns returns-2)

@@ -1,0 +1,57 @@
+-- `report::put_sent` meets its contract: its three pieces are one piece. Assumes nothing.
+use Prim.Native.Nat.{_≤_}
+use native.Mathlib.Omega.{arith}
+use Rattle.schedule.specs.Number.{most}
+use Rattle.schedule.specs.Report.{sentText, decidedText, sentEnd}
+use Rattle.schedule.proofs.PutLaws.{wrote-more, room-after}
+use Rattle.schedule.proofs.ReportLaws.{field-long}
+use borrow.Author.Needs.{needs}
+use Rattle.schedule.proofs.report.put_sent.Statement.{statement}
+use Rattle.schedule.proofs.report.put_sent.Tie as tie
+
+slice-aggregate-put-field : tie.Need-slice-aggregate-put-field
+slice-aggregate-put-field c = search needs
+
+put-field-requires : tie.Need-put-field-requires
+put-field-requires c κs = search needs
+
+slice-aggregate-put-field-2 : tie.Need-slice-aggregate-put-field-2
+slice-aggregate-put-field-2 c = search needs
+
+put-field-requires-2 : tie.Need-put-field-requires-2
+put-field-requires-2 c κs =
+    let n = c .before .before .before .before .before .before .before .before .args .c in
+    let sent : n .sent ≤ most = omega arith in
+    let room = room-after 20 (c .before .before .before .before .put-field .ensures) (field-long sentText (n .sent) sent) (omega arith) in
+    omega arith
+
+slice-aggregate-put-bytes : tie.Need-slice-aggregate-put-bytes
+slice-aggregate-put-bytes c = search needs
+
+put-bytes-requires : tie.Need-put-bytes-requires
+put-bytes-requires c κs =
+    let n = c .before .before .before .before .before .before .before .before .before .before .before .before .before .args .c in
+    let sent : n .sent ≤ most = omega arith in
+    let decided : n .decided ≤ most = omega arith in
+    let room = room-after 20 (c .before .before .before .before .before .before .before .before .before .put-field .ensures) (field-long sentText (n .sent) sent) (omega arith) in
+    room-after 1 (c .before .before .before .before .put-field2 .ensures) (field-long decidedText (n .decided) decided) room
+
+same-length : tie.Need-same-length
+same-length c = search needs
+
+returns : tie.Need-returns
+unfolding sentEnd
+returns c = wrote-more (c .before .before .before .before .before .before .before .before .before .before .before .before .put-field .ensures) (wrote-more (c .before .before .before .before .before .before .before .put-field2 .ensures) (c .before .before .put-bytes .ensures))
+
+pub put-sent-spec : {M : Type 1} → statement M
+put-sent-spec =
+    tie.close
+    (tie.spec
+    slice-aggregate-put-field
+    put-field-requires
+    slice-aggregate-put-field-2
+    put-field-requires-2
+    slice-aggregate-put-bytes
+    put-bytes-requires
+    same-length
+    returns)

@@ -1,0 +1,28 @@
+-- `run::run` meets its contract: a faulty file is answered with its fault, a sound one with its run. Assumes nothing.
+use Rattle.schedule.proofs.WholeLaws.{run-bad, run-form, run-good}
+use borrow.Author.Needs.{needs}
+use Rattle.schedule.proofs.run.run.Statement.{statement}
+use Rattle.schedule.proofs.run.run.Tie as tie
+
+form-of-requires : tie.Need-form-of-requires
+form-of-requires c κs = search needs
+
+no-run-requires : tie.Need-no-run-requires
+no-run-requires c κs = search needs
+
+returns : tie.Need-returns
+returns c = run-bad _ _ (c .before .before .before .before .form-of .ensures) (c .before .if1 .taken) _ _ (c .no-run .ensures)
+
+run-sound-requires : tie.Need-run-sound-requires
+run-sound-requires c κs = run-form _ _ (c .before .before .before .before .before .before .form-of .ensures) (c .before .before .before .if1 .left)
+
+same-length : tie.Need-same-length
+same-length c = search needs
+
+returns-2 : tie.Need-returns-2
+returns-2 c = run-good _ _ (c .before .before .before .before .before .before .before .before .before .form-of .ensures) (c .before .before .before .before .before .before .if1 .left) _ _ _ (c .before .before .run-sound .ensures)
+
+pub run-spec : {M : Type 1} → statement M
+run-spec =
+    tie.close
+    (tie.spec form-of-requires no-run-requires returns run-sound-requires same-length returns-2)

@@ -1,0 +1,122 @@
+-- Document 01, "The schedule file and the report": "The step letter decides which numbers follow". What stands at a place of a file as a step line, and how a step
+-- is spelled. Assumes nothing.
+use mathlib.Core.Bool.{Bool, true, false}
+use mathlib.Core.List.{List, [], _∷_, _++_}
+use Prim.Native.Nat.{ℕ, _+_, _≤_}
+use lib.Dec.{eqb, ltb}
+use lib.ListN.{getD}
+use Rattle.rules.specs.declared.step.Step.{Step}
+use Rattle.rules.specs.declared.step.Step.the-variants.{DeliverE, DeliverS, DeliverF, DeliverDecision, Suspect, Pause, Crash, Recover}
+use Rattle.schedule.specs.Number.{pick, most, numberAt, spelled}
+use Rattle.schedule.specs.Lines.{Item, broken, item}
+use Rattle.schedule.specs.declared.number.Number.{Number}
+use Rattle.schedule.specs.declared.number.Number.the-variants.{Bad, Value}
+
+-- ---- how a step is spelled
+
+-- "Lines end with LF"; "` X` at the end of E, S, F, Z or Q is a cut"
+abbrev pub ending : Bool → List ℕ
+ending true = 32 ∷ 88 ∷ 10 ∷ []
+ending false = 10 ∷ []
+
+-- "one space between words": a number behind a space, before the rest of the line
+abbrev pub spaced : ℕ → List ℕ → List ℕ
+spaced v l = 32 ∷ (spelled v ++ l)
+
+-- "`E`, `S`, `F`: to, from, round. `Z` (decision): to, from. `Q` (suspect), `P` (pause), `C` (crash), `R` (recover): the process."
+abbrev pub lineOf : Step → List ℕ
+lineOf (DeliverE i j r x) = 69 ∷ spaced i (spaced j (spaced r (ending x)))
+lineOf (DeliverS i j r x) = 83 ∷ spaced i (spaced j (spaced r (ending x)))
+lineOf (DeliverF i j r x) = 70 ∷ spaced i (spaced j (spaced r (ending x)))
+lineOf (DeliverDecision i j x) = 90 ∷ spaced i (spaced j (ending x))
+lineOf (Suspect i x) = 81 ∷ spaced i (ending x)
+lineOf (Pause i) = 80 ∷ spaced i (ending false)
+lineOf (Crash i) = 67 ∷ spaced i (ending false)
+lineOf (Recover i) = 82 ∷ spaced i (ending false)
+
+-- each number of a step is one that a file can hold
+abbrev pub Holdable : Step → Type 0
+Holdable (DeliverE i j r x) = (i ≤ most) × (j ≤ most) × (r ≤ most)
+Holdable (DeliverS i j r x) = (i ≤ most) × (j ≤ most) × (r ≤ most)
+Holdable (DeliverF i j r x) = (i ≤ most) × (j ≤ most) × (r ≤ most)
+Holdable (DeliverDecision i j x) = (i ≤ most) × (j ≤ most)
+Holdable (Suspect i x) = i ≤ most
+Holdable (Pause i) = i ≤ most
+Holdable (Crash i) = i ≤ most
+Holdable (Recover i) = i ≤ most
+
+-- ---- how it is read
+
+-- how many numbers follow a letter. "Any other letter is refusal 9": none do
+unfoldable pub numbersAfter : ℕ → ℕ
+numbersAfter b =
+    pick (eqb b 69) 3
+    (pick (eqb b 83) 3
+    (pick (eqb b 70) 3
+    (pick (eqb b 90) 2
+    (pick (eqb b 81) 1
+    (pick (eqb b 80) 1
+    (pick (eqb b 67) 1
+    (pick (eqb b 82) 1
+    0)))))))
+
+-- whether the step of a letter may be cut
+unfoldable pub mayCut : ℕ → Bool
+mayCut b = pick (eqb b 80) false (pick (eqb b 67) false (pick (eqb b 82) false true))
+
+-- the step of a letter with its numbers
+unfoldable pub stepOf : ℕ → ℕ → ℕ → ℕ → Bool → Step
+stepOf b i j r x =
+    pick (eqb b 69) (DeliverE i j r x)
+    (pick (eqb b 83) (DeliverS i j r x)
+    (pick (eqb b 70) (DeliverF i j r x)
+    (pick (eqb b 90) (DeliverDecision i j x)
+    (pick (eqb b 81) (Suspect i x)
+    (pick (eqb b 80) (Pause i)
+    (pick (eqb b 67) (Crash i)
+    (Recover i)))))))
+
+-- going on after a number, or after a line's end: what a bad one gives, and what it gives where it is there
+abbrev pub onNumber : {A : Type 0} → Number → A → (ℕ → ℕ → A) → A
+onNumber Bad z f = z
+onNumber (Value v n) z f = f v n
+
+pub data End : Type 0 where
+  noEnd : End
+  ends : Bool → ℕ → End
+
+abbrev pub onEnd : {A : Type 0} → End → A → (Bool → ℕ → A) → A
+onEnd noEnd z f = z
+onEnd (ends x n) z f = f x n
+
+-- a space and a number
+unfoldable pub spacedAt : List ℕ → ℕ → Number
+spacedAt s at = pick (eqb (getD s at 0) 32) (numberAt s (at + 1)) Bad
+
+-- the same where one more number is wanted
+unfoldable pub nextNumber : List ℕ → ℕ → Bool → Number
+nextNumber s at wanted = pick wanted (spacedAt s at) (Value 0 at)
+
+-- LF, or ` X` and LF where the step may be cut
+unfoldable pub endAt : List ℕ → ℕ → Bool → End
+endAt s at may =
+    pick (eqb (getD s at 0) 10) (ends false (at + 1))
+    (pick may
+    (pick (eqb (getD s at 0) 32)
+    (pick (eqb (getD s (at + 1) 0) 88)
+    (pick (eqb (getD s (at + 2) 0) 10) (ends true (at + 3)) noEnd)
+    noEnd)
+    noEnd)
+    noEnd)
+
+-- what follows the letter b
+unfoldable pub afterLetter : ℕ → List ℕ → ℕ → Item Step
+afterLetter b s at =
+    onNumber (nextNumber s at true) broken
+    (λ i n. onNumber (nextNumber s n (ltb 1 (numbersAfter b))) broken
+    (λ j m. onNumber (nextNumber s m (ltb 2 (numbersAfter b))) broken
+    (λ r l. onEnd (endAt s l (mayCut b)) broken (λ x e. item (stepOf b i j r x) e))))
+
+-- the step line at a place
+unfoldable pub lineAt : List ℕ → ℕ → Item Step
+lineAt s at = pick (eqb (numbersAfter (getD s at 0)) 0) broken (afterLetter (getD s at 0) s (at + 1))

@@ -1,0 +1,217 @@
+-- What the parts of the reader and of the run ask and yield, for the contracts of the private functions. No public contract cites this page: a reader may skip it. Assumes nothing.
+use mathlib.Core.Path.{_≡_}
+use mathlib.Core.Bool.{Bool, true, false}
+use mathlib.Core.List.{List, [], _∷_, _++_}
+use mathlib.Core.Logic.{_≢_}
+use Prim.Native.Nat.{ℕ, _+_, _-_, _*_, _≤_, _<_}
+use lib.Dec.{eqb}
+use lib.ListN.{length, getD, take}
+use Rattle.rules.specs.Limits.{greatestSize}
+use Rattle.rules.specs.Records.{Sized}
+use Rattle.rules.specs.Run.{State, after}
+use Rattle.rules.specs.Parts.{Ready}
+use Rattle.rules.specs.declared.group.Group.{Group}
+use Rattle.rules.specs.declared.step.Step.{Step}
+use Rattle.schedule.specs.Limits.{mostSteps}
+use Rattle.schedule.specs.Number.{pick, numberAt}
+use Rattle.schedule.specs.Lines.{Item, broken, item, Items, brokenAt, items, linesAt}
+use Rattle.schedule.specs.Line.{End, noEnd, ends, nextNumber, lineAt}
+use Rattle.schedule.specs.Schedule.{Schedule, Reading, faulty, sound, valuesFrom, warmupFrom, measuredFrom, readFile, partAt, noPart, part, Part, noFault}
+use Rattle.schedule.specs.Run.{countsOf, Outcome, outcome, runBy}
+use Rattle.schedule.specs.declared.number.Number.{Number}
+use Rattle.schedule.specs.declared.line.Read.{Read}
+use Rattle.schedule.specs.declared.line.Taken.{Taken}
+use Rattle.schedule.specs.declared.section.Lines.{Lines}
+use Rattle.schedule.specs.declared.values.Values.{Values}
+use Rattle.schedule.specs.declared.part.Part.{Part as PartFound}
+use Rattle.schedule.specs.declared.file.Opening.{Opening}
+use Rattle.schedule.specs.declared.file.Places.{Places}
+use Rattle.schedule.specs.declared.file.Sections.{Sections}
+use Rattle.schedule.specs.declared.file.Form.{Form}
+use Rattle.schedule.specs.declared.counts.Counts.{Counts}
+use Rattle.schedule.specs.declared.run.Ran.{Ran}
+
+-- ---- places
+
+-- an LF stands at a place or ahead of it
+pub record Ahead (s : List ℕ) (at : ℕ) : Type 0 where
+  pub end : ℕ
+  pub low : at < end
+  pub high : end ≤ length s
+  pub lf : getD s (end - 1) 0 ≡ 10
+
+-- end is the place after the last LF, 0 where there is none
+pub record LastLf (s : List ℕ) (end : ℕ) : Type 0 where
+  pub high : end ≤ length s
+  pub lf : 0 < end → getD s (end - 1) 0 ≡ 10
+  pub none : (j : ℕ) → end ≤ j → getD s j 0 ≢ 10
+
+-- the place after a line, after a line's end; 0 where the form is broken
+unfoldable pub placeAfter : Item Step → ℕ
+placeAfter broken = 0
+placeAfter (item x m) = m
+
+unfoldable pub placeOfEnd : End → ℕ
+placeOfEnd noEnd = 0
+placeOfEnd (ends x m) = m
+
+-- the place after some lines, or the first that breaks the form
+unfoldable pub linesEnd : {A : Type 0} → Items A → Lines
+linesEnd (brokenAt i) = Lines.Fault i
+linesEnd (items xs m) = Lines.Good m
+
+-- a line's value as a number
+unfoldable pub numberOf : Item ℕ → Number
+numberOf broken = Number.Bad
+numberOf (item v n) = Number.Value v n
+
+-- ---- what is known to keep the form
+
+-- a number that ends within the file
+pub record KnownNumber (s : List ℕ) (at : ℕ) : Type 0 where
+  pub value : ℕ
+  pub next : ℕ
+  pub is : numberAt s at ≡ Number.Value value next
+  pub inside : next < length s
+
+pub record KnownNext (s : List ℕ) (at : ℕ) (wanted : Bool) : Type 0 where
+  pub value : ℕ
+  pub next : ℕ
+  pub is : nextNumber s at wanted ≡ Number.Value value next
+  pub inside : next < length s
+
+pub record KnownLine (s : List ℕ) (at : ℕ) : Type 0 where
+  pub step : Step
+  pub next : ℕ
+  pub is : lineAt s at ≡ item step next
+
+abbrev pub valueRead : Read → Number
+valueRead r = Number.Value (r .value) (r .next)
+
+abbrev pub lineRead : Taken → Item Step
+lineRead t = item (t .step) (t .next)
+
+-- ---- the parts of a file
+
+-- what the values of n lines are, as they were read into an array
+unfoldable pub valuesRead : ℕ → Values → Items ℕ
+valuesRead n r = pick (eqb (r .read) n) (items (take n (r .values)) (r .next)) (brokenAt (r .read))
+
+-- some steps whose lines stand from one place up to another
+pub record StepsAt (s : List ℕ) (count at m : ℕ) (ss : List Step) : Type 0 where
+  pub are : linesAt (lineAt s) count 0 at ≡ items ss m
+  pub long : length ss ≡ count
+
+pub record PartGood (s : List ℕ) (at : ℕ) (w : List ℕ) (line left k a m : ℕ) : Type 0 where
+  pub steps : List Step
+  pub are : StepsAt s k a m steps
+  pub few : k ≤ left
+  pub is : partAt s at w line left ≡ part steps m
+
+unfoldable pub PartIs : List ℕ → ℕ → List ℕ → ℕ → ℕ → PartFound → Type 0
+PartIs s at w line left (PartFound.Bad f) = (1 ≤ f .number) × (partAt s at w line left ≡ noPart f)
+PartIs s at w line left (PartFound.Good k a m) = PartGood s at w line left k a m
+
+-- the opening of a file: whatever is read of it begins so
+pub record OpeningGood (s : List ℕ) (n : ℕ) (vs : List ℕ) (at : ℕ) : Type 0 where
+  pub low : 1 ≤ n
+  pub high : n ≤ greatestSize
+  pub is : valuesFrom s ≡ warmupFrom s (take n vs) at
+
+unfoldable pub OpeningIs : Bool → List ℕ → Opening → Type 0
+OpeningIs true s o = OpeningGood s (o .n) (o .values) (o .at)
+OpeningIs false s o = valuesFrom s ≡ faulty (o .fault)
+
+unfoldable pub ValuesAre : List ℕ → Opening → Type 0
+ValuesAre s o = OpeningIs (eqb (o .fault .number) 0) s o
+
+-- the two sections of steps behind n values
+pub record SectionsGood (s : List ℕ) (n at : ℕ) (p : Places) : Type 0 where
+  pub warmup : List Step
+  pub measured : List Step
+  pub warmup-end : ℕ
+  pub measured-end : ℕ
+  pub warmup-are : StepsAt s (p .warmup) (p .start) warmup-end warmup
+  pub measured-are : StepsAt s (p .measured) (p .middle) measured-end measured
+  pub few : p .warmup + p .measured ≤ mostSteps
+  pub is : (vs : List ℕ) → length vs ≡ n → warmupFrom s vs at ≡ sound (record { values = vs; warmup = warmup; measured = measured })
+
+unfoldable pub StepsAre : List ℕ → ℕ → ℕ → Sections → Type 0
+StepsAre s n at (Sections.Bad f) = (1 ≤ f .number) × ((vs : List ℕ) → length vs ≡ n → warmupFrom s vs at ≡ faulty f)
+StepsAre s n at (Sections.Good p) = SectionsGood s n at p
+
+-- a sound file: its schedule, and where the steps stand
+pub record FormGood (s : List ℕ) (n : ℕ) (vs : List ℕ) (p : Places) : Type 0 where
+  pub warmup : List Step
+  pub measured : List Step
+  pub warmup-end : ℕ
+  pub measured-end : ℕ
+  pub low : 1 ≤ n
+  pub high : n ≤ greatestSize
+  pub warmup-are : StepsAt s (p .warmup) (p .start) warmup-end warmup
+  pub measured-are : StepsAt s (p .measured) (p .middle) measured-end measured
+  pub few : p .warmup + p .measured ≤ mostSteps
+  pub is : readFile s ≡ sound (record { values = take n vs; warmup = warmup; measured = measured })
+
+unfoldable pub FormCase : Bool → List ℕ → Form → Type 0
+FormCase true s r = FormGood s (r .n) (r .values) (r .places)
+FormCase false s r = readFile s ≡ faulty (r .fault)
+
+unfoldable pub FormIs : List ℕ → Form → Type 0
+FormIs s r = FormCase (eqb (r .fault .number) 0) s r
+
+-- ---- the run
+
+-- counts that have room for one more step
+pub record Room (c : Counts) : Type 0 where
+  pub steps : c .steps ≤ mostSteps
+  pub applied : c .applied ≤ mostSteps
+  pub idle : c .idle ≤ mostSteps
+  pub refused : c .refused ≤ mostSteps
+  pub sent : c .sent ≤ mostSteps * 256
+  pub decided : c .decided ≤ mostSteps
+
+-- a group that is sound over a store that is long, and some steps to take
+pub record RunReady (s : List ℕ) (at count : ℕ) (g : Group) (l : List ℕ) : Type 0 where
+  pub ready : Ready g l
+  pub sized : Sized g
+  pub steps : List Step
+  pub end : ℕ
+  pub are : StepsAt s count at end steps
+  pub few : count ≤ mostSteps
+
+-- whatever steps stand there were taken
+abbrev pub stateWith : Group → List ℕ → State
+stateWith g l = record { group = g; store = l }
+
+pub record RanSteps (ss : List Step) (g : Group) (l : List ℕ) (g′ : Group) (l′ : List ℕ) (c : Counts) : Type 0 where
+  pub state : stateWith g′ l′ ≡ after (stateWith g l) ss
+  pub counts : c ≡ countsOf (stateWith g l) ss
+
+abbrev pub RanTo : List ℕ → ℕ → ℕ → Group → List ℕ → Group → List ℕ → Counts → Type 0
+RanTo s at count g l g′ l′ c = (ss : List Step) (m : ℕ) → StepsAt s count at m ss → RanSteps ss g l g′ l′ c
+
+-- both sections
+pub record BothReady (s : List ℕ) (p : Places) (g : Group) (l : List ℕ) : Type 0 where
+  pub ready : Ready g l
+  pub sized : Sized g
+  pub warmup : List Step
+  pub measured : List Step
+  pub warmup-end : ℕ
+  pub measured-end : ℕ
+  pub warmup-are : StepsAt s (p .warmup) (p .start) warmup-end warmup
+  pub measured-are : StepsAt s (p .measured) (p .middle) measured-end measured
+  pub few : p .warmup + p .measured ≤ mostSteps
+
+pub record RanBoth (ws ms : List Step) (g : Group) (l : List ℕ) (r : Ran) (l′ : List ℕ) : Type 0 where
+  pub fault : r .fault ≡ noFault
+  pub warmup : r .warmup ≡ countsOf (stateWith g l) ws
+  pub measured : r .measured ≡ countsOf (after (stateWith g l) ws) ms
+  pub state : stateWith (r .group) l′ ≡ after (after (stateWith g l) ws) ms
+
+abbrev pub BothRan : List ℕ → Places → Group → List ℕ → Ran → List ℕ → Type 0
+BothRan s p g l r l′ = (ws ms : List Step) (a b : ℕ) → StepsAt s (p .warmup) (p .start) a ws → StepsAt s (p .measured) (p .middle) b ms → RanBoth ws ms g l r l′
+
+-- a sound file's run
+abbrev pub SoundRan : List ℕ → List ℕ → Ran → List ℕ → Type 0
+SoundRan s l r l′ = (h : Schedule) → readFile s ≡ sound h → outcome r l′ ≡ runBy (sound h) l

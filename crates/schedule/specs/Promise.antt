@@ -1,0 +1,47 @@
+-- What holds of every file that is read as a schedule, stated over the definition of the run that the contracts cite. The proofs are in proofs/Promise. Assumes nothing.
+use mathlib.Core.Path.{_≡_}
+use mathlib.Core.Bool.{true}
+use mathlib.Core.List.{List}
+use Prim.Native.Nat.{ℕ, _+_, _≤_}
+use lib.ListN.{length}
+use Rattle.rules.specs.Limits.{storeLength}
+use Rattle.rules.specs.Tally.{count}
+use Rattle.rules.specs.Records.{processAt}
+use Rattle.rules.specs.Store.{sentIn}
+use Rattle.rules.specs.Safety.{Of, FirstValue}
+use Rattle.rules.specs.declared.group.Group.{Group}
+use Rattle.schedule.specs.Schedule.{Schedule, readFile, sound}
+use Rattle.schedule.specs.Run.{Outcome, runOf}
+use Rattle.schedule.specs.declared.counts.Counts.{Counts}
+
+-- "Every step is applied, idle or refused": the three counts of a section add up to its steps
+abbrev pub AddsUp : Counts → Type 0
+AddsUp c = c .applied + c .idle + c .refused ≡ c .steps
+
+-- how many processes of a group hold a decision
+abbrev pub decidedIn : Group → ℕ
+decidedIn g = count (λ i. processAt g i .decided) (g .n)
+
+-- process i of a group holds the decision v
+pub record Decided (g : Group) (i v : ℕ) : Type 0 where
+  pub decided : processAt g i .decided ≡ true
+  pub decision : processAt g i .decision ≡ v
+
+-- of the schedule h and of all that its run over a store of at least 3,088 entries yields
+pub record Promise (h : Schedule) (o : Outcome) : Type 0 where
+  -- both sections have as many steps as were read
+  pub warmup : o .ran .warmup .steps ≡ length (h .warmup)
+  pub measured : o .ran .measured .steps ≡ length (h .measured)
+  pub warmup-adds : AddsUp (o .ran .warmup)
+  pub measured-adds : AddsUp (o .ran .measured)
+  -- "1 + both sent counts equals the sent entries in the store at the end"
+  pub sent : sentIn (o .store) storeLength ≡ 1 + (o .ran .warmup .sent + o .ran .measured .sent)
+  -- both *decided* together are the processes that hold a decision
+  pub decided : decidedIn (o .ran .group) ≡ o .ran .warmup .decided + o .ran .measured .decided
+  -- no two processes hold different decisions, and each is some process's first value
+  pub agreement : (i j v w : ℕ) → Of (h .values) i → Of (h .values) j → Decided (o .ran .group) i v → Decided (o .ran .group) j w → v ≡ w
+  pub validity : (i v : ℕ) → Of (h .values) i → Decided (o .ran .group) i v → FirstValue (h .values) v
+
+-- the promise of the program: every file that is read as a schedule keeps it
+abbrev pub Promised : Type 0
+Promised = (s l : List ℕ) (h : Schedule) → readFile s ≡ sound h → storeLength ≤ length l → Promise h (runOf s l)

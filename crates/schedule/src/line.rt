@@ -1,0 +1,208 @@
+// Step lines: a letter, its numbers, ` X` where the step is cut, and LF.
+ghost use mathlib.Core.Path.{_≡_};
+ghost use Rattle.schedule.specs.Number.{numberAt};
+ghost use Rattle.schedule.specs.Line.{numbersAfter, mayCut, stepOf, spacedAt, nextNumber, endAt, lineAt};
+ghost use Rattle.schedule.specs.Parts.{Ahead, placeAfter, placeOfEnd, KnownNumber, KnownNext, KnownLine, valueRead, lineRead};
+use crate::number::Number;
+use crate::number::decimal_at;
+use crate::number::is_digit;
+use rules::step::Step;
+
+// How many numbers follow a step letter; 0 for any other letter.
+pub(crate) fn numbers_after(letter: u8) -> u8
+    ensures { λ r. ⌜ r ≡ numbersAfter letter ⌝ }
+{
+    match letter {
+        b'E' => 3,
+        b'S' => 3,
+        b'F' => 3,
+        b'Z' => 2,
+        b'Q' => 1,
+        b'P' => 1,
+        b'C' => 1,
+        b'R' => 1,
+        _ => 0,
+    }
+}
+
+// Whether the step of a letter may be cut.
+pub(crate) fn may_cut(letter: u8) -> bool
+    ensures { λ r. ⌜ r ≡ mayCut letter ⌝ }
+{
+    match letter {
+        b'P' => false,
+        b'C' => false,
+        b'R' => false,
+        _ => true,
+    }
+}
+
+// The step of a letter with its numbers.
+pub(crate) fn step_of(letter: u8, a: u32, b: u32, c: u32, cut: bool) -> Step
+    ensures { λ r. ⌜ r ≡ stepOf letter a b c cut ⌝ }
+{
+    match letter {
+        b'E' => Step::DeliverE {
+            to: a,
+            from: b,
+            round: c,
+            cut: cut,
+        },
+        b'S' => Step::DeliverS {
+            to: a,
+            from: b,
+            round: c,
+            cut: cut,
+        },
+        b'F' => Step::DeliverF {
+            to: a,
+            from: b,
+            round: c,
+            cut: cut,
+        },
+        b'Z' => Step::DeliverDecision {
+            to: a,
+            from: b,
+            cut: cut,
+        },
+        b'Q' => Step::Suspect {
+            process: a,
+            cut: cut,
+        },
+        b'P' => Step::Pause { process: a },
+        b'C' => Step::Crash { process: a },
+        _ => Step::Recover { process: a },
+    }
+}
+
+// ---- a line that may break the form
+
+// A space and a number.
+pub(crate) fn spaced_at(s: &[u8], at: usize) -> Number
+    requires { ⌜ Ahead (now s) at ⌝ }
+    ensures { λ r. ⌜ r ≡ spacedAt (now (s .entry)) at ⌝ }
+{
+    if s[at] == 32 {
+        decimal_at(s, at + 1)
+    } else {
+        Number::Bad
+    }
+}
+
+// The same where one more number is wanted, and otherwise nothing read.
+pub(crate) fn next_number(s: &[u8], at: usize, wanted: bool) -> Number
+    requires { ⌜ Ahead (now s) at ⌝ }
+    ensures { λ r. ⌜ r ≡ nextNumber (now (s .entry)) at wanted ⌝ }
+{
+    if wanted {
+        spaced_at(s, at)
+    } else {
+        Number::Value(0, at)
+    }
+}
+
+// The place after a line's end, which is LF or, where the step may be cut, ` X` and LF; 0 where neither stands here.
+pub(crate) fn end_at(s: &[u8], at: usize, may: bool) -> usize
+    requires { ⌜ Ahead (now s) at ⌝ }
+    ensures { λ r. ⌜ r ≡ placeOfEnd (endAt (now (s .entry)) at may) ⌝ }
+{
+    let b = s[at];
+    if b == 10 {
+        return at + 1;
+    }
+    if !may {
+        return 0;
+    }
+    if b != 32 {
+        return 0;
+    }
+    if s[at + 1] != 88 {
+        return 0;
+    }
+    if s[at + 2] != 10 {
+        return 0;
+    }
+    at + 3
+}
+
+// The place after the step line at a place; 0 where the line breaks the form.
+pub(crate) fn line_end(s: &[u8], at: usize) -> usize
+    requires { ⌜ Ahead (now s) at ⌝ }
+    ensures { λ r. ⌜ r ≡ placeAfter (lineAt (now (s .entry)) at) ⌝ }
+{
+    let letter = s[at];
+    let count = numbers_after(letter);
+    if count == 0 {
+        return 0;
+    }
+    match spaced_at(s, at + 1) {
+        Number::Value(_, n) => match next_number(s, n, 1 < count) {
+            Number::Value(_, m) => match next_number(s, m, 2 < count) {
+                Number::Value(_, l) => end_at(s, l, may_cut(letter)),
+                Number::Bad => 0,
+            },
+            Number::Bad => 0,
+        },
+        Number::Bad => 0,
+    }
+}
+
+// ---- a line that is known to keep the form: nothing is tested again
+
+// A number and the place after it.
+pub(crate) struct Read {
+    pub value: u32,
+    pub next: usize,
+}
+
+// A step and the place after its line.
+pub(crate) struct Taken {
+    pub step: Step,
+    pub next: usize,
+}
+
+// The number at a place.
+pub(crate) fn known_number(s: &[u8], at: usize) -> Read
+    requires { ⌜ KnownNumber (now s) at ⌝ }
+    ensures { λ r. ⌜ numberAt (now (s .entry)) at ≡ valueRead r ⌝ }
+{
+    let mut value: u32 = (s[at] - 48) as u32;
+    let mut next = at + 1;
+    while is_digit(s[next]) {
+        value = value * 10 + (s[next] - 48) as u32;
+        next += 1;
+    }
+    Read { value, next }
+}
+
+// The number behind a space where one more is wanted, and otherwise nothing read.
+pub(crate) fn known_next(s: &[u8], at: usize, wanted: bool) -> Read
+    requires { ⌜ KnownNext (now s) at wanted ⌝ }
+    ensures { λ r. ⌜ nextNumber (now (s .entry)) at wanted ≡ valueRead r ⌝ }
+{
+    if wanted {
+        known_number(s, at + 1)
+    } else {
+        Read { value: 0, next: at }
+    }
+}
+
+// The step of the line at a place, and the place after it.
+pub(crate) fn known_line(s: &[u8], at: usize) -> Taken
+    requires { ⌜ KnownLine (now s) at ⌝ }
+    ensures { λ r. ⌜ lineAt (now (s .entry)) at ≡ lineRead r ⌝ }
+{
+    let letter = s[at];
+    let count = numbers_after(letter);
+    let a = known_next(s, at + 1, true);
+    let first = a.value;
+    let b = known_next(s, a.next, 1 < count);
+    let second = b.value;
+    let c = known_next(s, b.next, 2 < count);
+    let third = c.value;
+    let end = c.next;
+    let cut = s[end] == 32;
+    let step = step_of(letter, first, second, third, cut);
+    let next = if cut { end + 3 } else { end + 1 };
+    Taken { step, next }
+}

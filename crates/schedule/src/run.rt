@@ -1,0 +1,168 @@
+// The run of a schedule file over a lent store: the file is checked first, and its steps are taken while it is read again.
+ghost use mathlib.Core.Path.{_≡_};
+ghost use Rattle.rules.specs.Records.{groupOf};
+ghost use Rattle.schedule.specs.Run as runs;
+ghost use Rattle.schedule.specs.Parts.{RunReady, RanTo, BothReady, BothRan, FormGood, SoundRan};
+use crate::counts::Counts;
+use crate::file::Fault;
+use crate::file::Places;
+use crate::file::form_of;
+use crate::reader;
+use rules::group::Bytes;
+use rules::group::Flags;
+use rules::group::Group;
+use rules::group::Halves;
+use rules::group::Words;
+use rules::step::step_sound;
+use rules::store::Store;
+
+// What a file's run gives: its fault, and then no step was run; or no fault, the counts of its two sections, and the group at the end.
+pub struct Ran {
+    pub fault: Fault,
+    pub warmup: Counts,
+    pub measured: Counts,
+    pub group: Group,
+}
+
+// The answer to a faulty file: no counts, and a group of size 0.
+pub(crate) fn no_run(fault: Fault) -> Ran
+    ensures { λ r. ⌜ r ≡ runs.notRun fault ⌝ }
+{
+    let words = [0u32; 3 * Group::GREATEST];
+    let halves = [0u16; 2 * Group::GREATEST];
+    let bytes = [0u8; 3 * Group::GREATEST];
+    let flags = [false; 3 * Group::GREATEST];
+    let group = Group {
+        n: 0,
+        words: words,
+        halves: halves,
+        bytes: bytes,
+        flags: flags,
+    };
+    let warmup = Counts::none();
+    let measured = Counts::none();
+    Ran {
+        fault,
+        warmup,
+        measured,
+        group,
+    }
+}
+
+// Takes the count steps whose lines stand from a place on, and answers their counts.
+pub(crate) fn run_steps(
+    s: &[u8],
+    at: usize,
+    count: u32,
+    n: u8,
+    words: &mut Words,
+    halves: &mut Halves,
+    bytes: &mut Bytes,
+    flags: &mut Flags,
+    store: &mut [u64],
+) -> Counts
+    requires { ⌜ RunReady (now s) at count (groupOf n (now words) (now halves) (now bytes) (now flags)) (now store) ⌝ }
+    ensures { λ r. ⌜ RanTo (now (s .entry)) at count (groupOf n (now (words .entry)) (now (halves .entry)) (now (bytes .entry)) (now (flags .entry))) (now (store .entry)) (groupOf n (now (words .exit)) (now (halves .exit)) (now (bytes .exit)) (now (flags .exit))) (now (store .exit)) r ⌝ }
+{
+    let mut counts = Counts::none();
+    let mut i: u32 = 0;
+    let mut place = at;
+    while i < count {
+        let taken = reader::step_at(s, place);
+        let step = taken.step;
+        let answer = step_sound(n, words, halves, bytes, flags, store, step);
+        counts = counts.counted(answer);
+        place = taken.next;
+        i += 1;
+    }
+    counts
+}
+
+// Takes the steps of both sections from a group on, which is sound over a store that is long.
+pub(crate) fn run_both(s: &[u8], places: Places, group: Group, store: &mut [u64]) -> Ran
+    requires { ⌜ BothReady (now s) places group (now store) ⌝ }
+    ensures { λ r. ⌜ BothRan (now (s .entry)) places group (now (store .entry)) r (now (store .exit)) ⌝ }
+{
+    let n = group.n;
+    let mut words = group.words;
+    let mut halves = group.halves;
+    let mut bytes = group.bytes;
+    let mut flags = group.flags;
+    let warmup = run_steps(
+        s,
+        places.start,
+        places.warmup,
+        n,
+        &mut words,
+        &mut halves,
+        &mut bytes,
+        &mut flags,
+        store,
+    );
+    let measured = run_steps(
+        s,
+        places.middle,
+        places.measured,
+        n,
+        &mut words,
+        &mut halves,
+        &mut bytes,
+        &mut flags,
+        store,
+    );
+    let last = Group {
+        n: n,
+        words: words,
+        halves: halves,
+        bytes: bytes,
+        flags: flags,
+    };
+    let fault = Fault::none();
+    Ran {
+        fault: fault,
+        warmup: warmup,
+        measured: measured,
+        group: last,
+    }
+}
+
+// Runs a sound file: a start with its values, then its steps. Over a store that is too short the start is refused, and so is every step.
+pub(crate) fn run_sound(
+    s: &[u8],
+    n: u32,
+    values: [u32; Group::GREATEST],
+    places: Places,
+    store: &mut [u64],
+) -> Ran
+    requires { ⌜ FormGood (now s) n values places ⌝ }
+    ensures { λ r. ⌜ SoundRan (now (s .entry)) (now (store .entry)) r (now (store .exit)) ⌝ }
+{
+    let begun = Group::start(&values[..n as usize], store);
+    let group = begun.group;
+    if store.len() < Store::LENGTH {
+        let fault = Fault::none();
+        let warmup = Counts::refused(places.warmup);
+        let measured = Counts::refused(places.measured);
+        return Ran {
+            fault,
+            warmup,
+            measured,
+            group,
+        };
+    }
+    run_both(s, places, group, store)
+}
+
+// Runs a schedule file over a lent store. A faulty file runs no step, and leaves the store as it was.
+pub fn run(file: &[u8], store: &mut [u64]) -> Ran
+    ensures { λ r. ⌜ runs.Runs (now (file .entry)) (now (store .entry)) r (now (store .exit)) ⌝ }
+{
+    let form = form_of(file);
+    let fault = form.fault;
+    if fault.number != 0 {
+        return no_run(fault);
+    }
+    let values = form.values;
+    let places = form.places;
+    run_sound(file, form.n, values, places, store)
+}

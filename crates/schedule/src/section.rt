@@ -1,0 +1,46 @@
+// Lines, one after the other: where a file's last line ends, and a section's step lines. No step list is kept.
+ghost use mathlib.Core.Path.{_≡_};
+ghost use Rattle.schedule.specs.Line.{lineAt};
+ghost use Rattle.schedule.specs.Lines.{linesAt};
+ghost use Rattle.schedule.specs.Parts.{LastLf, linesEnd};
+use crate::reader;
+
+// The place after the last of some lines, or which of them, counted from 0, is the first faulty one.
+pub(crate) enum Lines {
+    Fault(u32),
+    Good(usize),
+}
+
+// The place after the last LF of a file; 0 where it has none.
+pub(crate) fn last_end(s: &[u8]) -> usize
+    ensures { λ r. ⌜ LastLf (now (s .entry)) r ⌝ }
+{
+    let mut k = s.len();
+    while k > 0 {
+        if s[k - 1] == 10 {
+            return k;
+        }
+        k -= 1;
+    }
+    0
+}
+
+// The count step lines from a place on, in a file whose last LF stands before end.
+pub(crate) fn check_steps(s: &[u8], at: usize, end: usize, count: u32) -> Lines
+    requires { ⌜ LastLf (now s) end ⌝ }
+    ensures { λ r. ⌜ r ≡ linesEnd (linesAt (lineAt (now (s .entry))) count 0 at) ⌝ }
+{
+    let mut i: u32 = 0;
+    let mut place = at;
+    while i < count {
+        if place >= end {
+            return Lines::Fault(i);
+        }
+        place = reader::line_end_at(s, place);
+        if place == 0 {
+            return Lines::Fault(i);
+        }
+        i += 1;
+    }
+    Lines::Good(place)
+}
