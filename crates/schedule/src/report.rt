@@ -29,8 +29,10 @@ pub(crate) fn put_fault(out: &mut [u8], at: usize, fault: Fault) -> usize
     requires { ⌜ at + 26 ≤ length (now out) ⌝ }
     ensures { λ r. ⌜ Wrote (now (out .entry)) at (reports.faultLine fault) (now (out .exit)) r ⌝ }
 {
-    let a = put_field(out, at, b"BAD ", fault.number as u32);
-    let b = put_field(out, a, b" ", fault.line);
+    let number = fault.number as u32;
+    let line = fault.line;
+    let a = put_field(out, at, b"BAD ", number);
+    let b = put_field(out, a, b" ", line);
     put_bytes(out, b, b"\n")
 }
 

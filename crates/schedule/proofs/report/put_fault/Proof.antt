@@ -9,11 +9,11 @@ use borrow.Author.Needs.{needs}
 use Rattle.schedule.proofs.report.put_fault.Statement.{statement}
 use Rattle.schedule.proofs.report.put_fault.Tie as tie
 
+cast-number : tie.Need-cast-number
+cast-number c = search needs
+
 slice-aggregate-put-field : tie.Need-slice-aggregate-put-field
 slice-aggregate-put-field c = search needs
-
-cast-put-field : tie.Need-cast-put-field
-cast-put-field c = search needs
 
 put-field-requires : tie.Need-put-field-requires
 put-field-requires c κs = search needs
@@ -50,8 +50,8 @@ pub put-fault-spec : {M : Type 1} → statement M
 put-fault-spec =
     tie.close
     (tie.spec
+    cast-number
     slice-aggregate-put-field
-    cast-put-field
     put-field-requires
     slice-aggregate-put-field-2
     put-field-requires-2
