@@ -7,13 +7,10 @@ use lib.ListN.{length}
 use Rattle.schedule.specs.Stands.{Stands}
 use Rattle.schedule.specs.Lines.{Item, broken, item, onItem, Items, brokenAt, items, before, linesAt, linesOf}
 use Rattle.schedule.specs.Schedule.{Every}
+use Rattle.schedule.proofs.LinesLaws.{lines-none}
 use Rattle.schedule.proofs.StandsLaws.{stands-none, stands-join, stands-first, stands-rest}
 
 module _ {A : Type 0} (f : ℕ → Item A) where
-  lines-none : (i at : ℕ) → linesAt f zero i at ≡ items [] at
-  unfolding linesAt
-  lines-none i at = refl
-
   lines-more : (k i at n m : ℕ) (x : A) (xs : List A) → f at ≡ item x n → linesAt f k (i + 1) n ≡ items xs m → linesAt f (suc k) i at ≡ items (x ∷ xs) m
   unfolding linesAt before
   lines-more k i at n m x xs e h = rw (e, h)

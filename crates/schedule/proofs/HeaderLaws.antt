@@ -15,20 +15,17 @@ use Rattle.schedule.specs.declared.number.Number.{Number}
 use Rattle.schedule.specs.declared.number.Number.the-variants.{Bad, Value}
 use Rattle.schedule.specs.declared.header.Word.{Word}
 use Rattle.schedule.specs.declared.header.Word.the-variants.{Missing, Past}
+use Rattle.schedule.proofs.LineCases.{alone-is}
 use Rattle.schedule.proofs.StandsLaws.{stands-none, stands-join, stands-first, stands-rest, stands-byte, stands-tail, stands-here, stands-within, byte-stands}
 use Rattle.schedule.proofs.LineLaws.{quiet-byte, spaced-spelled, SpacedSound, spaced-sound}
 
 -- ---- a space, a number and LF
 
-alone-got : (s : List ℕ) (at v n : ℕ) → spacedAt s at ≡ Value v n → getD s n 0 ≡ 10 → aloneAt s at ≡ Value v (n + 1)
-unfolding aloneAt
-alone-got s at v n e f = rw (e, f)
-
 module _ (s : List ℕ) where
   pub alone-spelled : (at m v : ℕ) → v ≤ most → Stands s at m (spaced v (ending false)) → aloneAt s at ≡ Value v m
   alone-spelled at m v h p =
       let k = spaced-spelled s at m v (10 ∷ []) h (quiet-byte s m 10 [] (omega arith)) p in
-      alone-got s at v (k .place) (k .read) (byte-stands s (k .place) m 10 [] (k .rest)) ∙ ap (Value v) (sym (k .rest .end))
+      alone-is s at (k .read) (byte-stands s (k .place) m 10 [] (k .rest)) ∙ ap (Value v) (sym (k .rest .end))
 
   abbrev AloneSound : ℕ → Number → Type 0
   AloneSound at Bad = Unit {0}

@@ -298,10 +298,6 @@ module _ (s : List ℕ) (at : ℕ) (wanted : Bool) (k : KnownNext s at wanted) w
     pub behind-read : {x : Number} → numberAt s (at + 1) ≡ x → nextNumber s at wanted ≡ x
     behind-read e = ap (nextNumber s at) w ∙ (next-wanted s at as-wanted ∙ e)
 
-pub none-read : (s : List ℕ) (at : ℕ) {wanted : Bool} → wanted ≡ false → nextNumber s at wanted ≡ Value 0 at
-unfolding nextNumber
-none-read s at w = rw w
-
 -- the three numbers of a line, one after the other
 module _ (s : List ℕ) (at : ℕ) (k : KnownLine s at) where
   pub chain : Chain s at (k .step) (k .next)

@@ -15,6 +15,7 @@ use Rattle.schedule.specs.Lines.{Item, broken, item}
 use Rattle.schedule.specs.Line.{ending, spaced, lineOf, Holdable, numbersAfter, mayCut, stepOf, onNumber, End, noEnd, ends, onEnd, spacedAt, nextNumber, endAt, afterLetter, lineAt}
 use Rattle.schedule.specs.declared.number.Number.{Number}
 use Rattle.schedule.specs.declared.number.Number.the-variants.{Bad, Value}
+use Rattle.schedule.proofs.LineCases.{spaced-is, next-wanted, next-none, end-plain, end-cut}
 use Rattle.schedule.proofs.StandsLaws.{stands-join, stands-first, stands-rest, stands-byte, byte-stands, stands-cons, stands-tail}
 use Rattle.schedule.proofs.SpellLaws.{number-spelled, number-read}
 
@@ -111,26 +112,6 @@ not-digit : (b : ℕ) → b < 48 → isDigit b ≡ false
 unfolding isDigit
 not-digit b h = rw (lt-ltb b 48 h)
 
-spaced-is : (s : List ℕ) (at : ℕ) → getD s at 0 ≡ 32 → spacedAt s at ≡ numberAt s (at + 1)
-unfolding spacedAt
-spaced-is s at e = rw e
-
-next-is : (s : List ℕ) (at : ℕ) → nextNumber s at true ≡ spacedAt s at
-unfolding nextNumber
-next-is s at = refl
-
-next-none : (s : List ℕ) (at : ℕ) → nextNumber s at false ≡ Value 0 at
-unfolding nextNumber
-next-none s at = refl
-
-end-plain : (s : List ℕ) (at : ℕ) (may : Bool) → getD s at 0 ≡ 10 → endAt s at may ≡ ends false (at + 1)
-unfolding endAt
-end-plain s at may e = rw e
-
-end-cut : (s : List ℕ) (at : ℕ) → getD s at 0 ≡ 32 → getD s (at + 1) 0 ≡ 88 → getD s (at + 2) 0 ≡ 10 → endAt s at true ≡ ends true (at + 3)
-unfolding endAt
-end-cut s at e f g = rw (e, f, g)
-
 after-got : (b : ℕ) (s : List ℕ) (at n k l e i j r : ℕ) (x : Bool) → nextNumber s at true ≡ Value i n → nextNumber s n (ltb 1 (numbersAfter b)) ≡ Value j k
     → nextNumber s k (ltb 2 (numbersAfter b)) ≡ Value r l → endAt s l (mayCut b) ≡ ends x e → afterLetter b s at ≡ item (stepOf b i j r x) e
 unfolding afterLetter
@@ -177,8 +158,8 @@ module _ (s : List ℕ) where
   next-spelled : (at m v : ℕ) (l : List ℕ) (w : Bool) → WantedSmall w v → Quiet m l → Stands s at m (wantedText w v l) → Next at m v l (nextNumber s at w)
   next-spelled at m v l true h stop p =
       let k = spaced-spelled at m v l h stop p in
-      record { place = k .place; read = next-is s at ∙ k .read; rest = k .rest }
-  next-spelled at m v l false h stop p = record { place = at; read = next-none s at ∙ ap (λ (u : ℕ). Value u at) (sym h); rest = p }
+      record { place = k .place; read = next-wanted s at refl ∙ k .read; rest = k .rest }
+  next-spelled at m v l false h stop p = record { place = at; read = next-none s at refl ∙ ap (λ (u : ℕ). Value u at) (sym h); rest = p }
 
   end-spelled : (at m : ℕ) (x may : Bool) → CutOnly may x → Stands s at m (ending x) → endAt s at may ≡ ends x m
   end-spelled at m false may c p = end-plain s at may (byte-stands s at m 10 [] p) ∙ ap (ends false) (sym (p .end))
@@ -186,7 +167,7 @@ module _ (s : List ℕ) where
   end-spelled at m true true c p =
       let q = stands-tail s at m 32 (88 ∷ 10 ∷ []) p in
       let r = stands-tail s (at + 1) m 88 (10 ∷ []) q in
-      end-cut s at (byte-stands s at m 32 (88 ∷ 10 ∷ []) p) (byte-stands s (at + 1) m 88 (10 ∷ []) q)
+      end-cut s at refl (byte-stands s at m 32 (88 ∷ 10 ∷ []) p) (byte-stands s (at + 1) m 88 (10 ∷ []) q)
       (ap (λ (k : ℕ). getD s k 0) (omega arith) ∙ byte-stands s (at + 1 + 1) m 10 [] r) ∙ ap (ends true) (sym (p .end))
 
   after-spelled : (b at m i j r : ℕ) (x : Bool) → Body b i j r x → Stands s at m (bodyOf b i j r x) → afterLetter b s at ≡ item (stepOf b i j r x) m

@@ -1,6 +1,7 @@
 -- `line::known_next` meets its contract. A number that is wanted stands behind a space, so it is the number at the next place. Assumes nothing.
 use native.Mathlib.Omega.{arith}
-use Rattle.schedule.proofs.KnownLaws.{behind-here, behind-known, behind-read, none-read}
+use Rattle.schedule.proofs.LineCases.{next-none}
+use Rattle.schedule.proofs.KnownLaws.{behind-here, behind-known, behind-read}
 use Rattle.schedule.proofs.line.known_next.Statement.{statement}
 use Rattle.schedule.proofs.line.known_next.Tie as tie
 
@@ -14,7 +15,7 @@ returns : tie.Need-returns
 returns c = behind-read _ _ _ (c .before .before .before .pre) (c .before .if1 .taken) (c .known-number .ensures)
 
 returns-2 : tie.Need-returns-2
-returns-2 c = none-read _ _ (c .if1 .left)
+returns-2 c = next-none _ _ (c .if1 .left)
 
 pub known-next-spec : {M : Type 1} → statement M
 known-next-spec = tie.close (tie.spec add-known-number known-number-requires returns returns-2)
