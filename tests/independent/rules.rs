@@ -1,0 +1,582 @@
+// The rules of document 01, written from its words alone: what a group does with one step.
+// Records, tallies and the message store are plain maps and sets. Nothing here knows of files.
+// A process has a disk with its stored record and, unless it crashed, a memory with its tallies.
+
+use std::collections::{BTreeMap, BTreeSet};
+use std::fmt;
+
+pub const GREATEST_GROUP: u32 = 16;
+pub const LAST_ROUND: u32 = 63;
+
+pub fn majority(n: u32) -> usize {
+    (n / 2 + 1) as usize
+}
+
+pub fn coordinator(round: u32, n: u32) -> u32 {
+    round % n + 1
+}
+
+/// Document 01's "errors that look right": one of them can be switched on.
+#[derive(Clone, Copy, PartialEq, Eq, Debug)]
+pub enum Error {
+    CountsReceptions,
+    BackInPhase1,
+    HandsOverBeforeStoring,
+    FAfterAdopting,
+    PauseEmptiesTallies,
+}
+
+pub const ERRORS: [(&str, Error); 5] = [
+    ("counts-receptions", Error::CountsReceptions),
+    ("back-in-phase-1", Error::BackInPhase1),
+    ("hands-over-before-storing", Error::HandsOverBeforeStoring),
+    ("f-after-adopting", Error::FAfterAdopting),
+    ("pause-empties-tallies", Error::PauseEmptiesTallies),
+];
+
+#[derive(Clone, Copy, PartialEq, Eq, Debug)]
+pub struct Estimate {
+    pub proposer: u32,
+    pub value: u32,
+}
+
+/// Which message it is; what it carries stands in the store.
+#[derive(Clone, Copy, PartialEq, Eq, PartialOrd, Ord, Debug)]
+pub enum Message {
+    E { round: u32, from: u32 },
+    S { round: u32, from: u32 },
+    F { round: u32, from: u32 },
+    Decision { from: u32 },
+}
+
+impl Message {
+    pub fn from(&self) -> u32 {
+        match *self {
+            Message::E { from, .. } | Message::S { from, .. } | Message::F { from, .. } | Message::Decision { from } => from,
+        }
+    }
+    pub fn round(&self) -> Option<u32> {
+        match *self {
+            Message::E { round, .. } | Message::S { round, .. } | Message::F { round, .. } => Some(round),
+            Message::Decision { .. } => None,
+        }
+    }
+}
+
+#[derive(Clone, Copy, PartialEq, Eq, Debug)]
+pub enum Step {
+    Deliver { to: u32, message: Message, cut: bool },
+    Suspect { who: u32, cut: bool },
+    Pause { who: u32 },
+    Crash { who: u32 },
+    Recover { who: u32 },
+}
+
+impl Step {
+    pub fn who(&self) -> u32 {
+        match *self {
+            Step::Deliver { to, .. } => to,
+            Step::Suspect { who, .. } | Step::Pause { who } | Step::Crash { who } | Step::Recover { who } => who,
+        }
+    }
+    pub fn is_cut(&self) -> bool {
+        matches!(*self, Step::Deliver { cut: true, .. } | Step::Suspect { cut: true, .. })
+    }
+    pub fn letter(&self) -> char {
+        match self {
+            Step::Deliver { message: Message::E { .. }, .. } => 'E',
+            Step::Deliver { message: Message::S { .. }, .. } => 'S',
+            Step::Deliver { message: Message::F { .. }, .. } => 'F',
+            Step::Deliver { message: Message::Decision { .. }, .. } => 'Z',
+            Step::Suspect { .. } => 'Q',
+            Step::Pause { .. } => 'P',
+            Step::Crash { .. } => 'C',
+            Step::Recover { .. } => 'R',
+        }
+    }
+}
+
+impl fmt::Display for Step {
+    fn fmt(&self, f: &mut fmt::Formatter) -> fmt::Result {
+        write!(f, "{} {}", self.letter(), self.who())?;
+        if let Step::Deliver { message, .. } = self {
+            write!(f, " {}", message.from())?;
+            if let Some(round) = message.round() {
+                write!(f, " {}", round)?;
+            }
+        }
+        if self.is_cut() {
+            write!(f, " X")?;
+        }
+        Ok(())
+    }
+}
+
+/// The stored record: what a crash leaves.
+#[derive(Clone, PartialEq, Eq, Debug)]
+pub struct Stored {
+    pub first_value: u32,
+    pub round: u32,
+    pub phase: u32,
+    pub estimate: Estimate,
+    pub marked: bool,
+    pub decision: Option<u32>,
+}
+
+/// The distinct senders heard. The number of receptions is kept for the error that counts them.
+#[derive(Clone, Default, Debug)]
+pub struct Tally {
+    senders: BTreeSet<u32>,
+    receptions: usize,
+}
+
+impl Tally {
+    fn add(&mut self, sender: u32) {
+        self.senders.insert(sender);
+        self.receptions += 1;
+    }
+}
+
+/// What a process that has not crashed works with.
+#[derive(Clone, Debug)]
+struct Memory {
+    record: Stored,
+    estimates: Tally,
+    suspicions: Tally,
+}
+
+#[derive(Clone, PartialEq, Eq, Debug)]
+pub enum Outcome {
+    Applied,
+    Idle(&'static str),
+    Refused(u32, &'static str),
+}
+
+/// What one step gave: its outcome, the entries that it turned from 0 to sent, whether its
+/// process decided in it, and the parts of the rules that it went through.
+#[derive(Clone, Debug)]
+pub struct Told {
+    pub outcome: Outcome,
+    pub handed_over: Vec<(Message, Estimate)>,
+    pub sent: u64,
+    pub decided: bool,
+    pub parts: Vec<&'static str>,
+}
+
+enum Effect {
+    Idle(&'static str),
+    Next(Memory, Vec<(Message, Estimate)>, Vec<&'static str>),
+    Pause,
+    Crash,
+    Recover,
+}
+
+type Refusal = (u32, &'static str);
+
+pub struct Group {
+    pub n: u32,
+    disk: BTreeMap<u32, Stored>,
+    memory: BTreeMap<u32, Memory>,
+    paused: BTreeSet<u32>,
+    pub store: BTreeMap<Message, Estimate>,
+    kept_back: BTreeSet<Message>,
+    error: Option<Error>,
+}
+
+impl Group {
+    /// The start; refusal 1 where there are not 1 to 16 values.
+    pub fn start(values: &[u32], error: Option<Error>) -> Result<Group, u32> {
+        if values.is_empty() || values.len() > GREATEST_GROUP as usize {
+            return Err(1);
+        }
+        let mut disk = BTreeMap::new();
+        let mut memory = BTreeMap::new();
+        for (i, &value) in (1..).zip(values) {
+            let record = Stored {
+                first_value: value,
+                round: 0,
+                phase: 1,
+                estimate: Estimate { proposer: i, value },
+                marked: false,
+                decision: None,
+            };
+            disk.insert(i, record.clone());
+            memory.insert(i, Memory { record, estimates: Tally::default(), suspicions: Tally::default() });
+        }
+        let first = Estimate { proposer: 1, value: values[0] };
+        Ok(Group {
+            n: values.len() as u32,
+            disk,
+            memory,
+            paused: BTreeSet::new(),
+            store: BTreeMap::from([(Message::E { round: 0, from: 1 }, first)]),
+            kept_back: BTreeSet::new(),
+            error,
+        })
+    }
+
+    pub fn is_up(&self, who: u32) -> bool {
+        self.memory.contains_key(&who) && !self.paused.contains(&who)
+    }
+
+    /// The record as the process has it: in its memory, or on its disk after a crash.
+    pub fn record(&self, who: u32) -> &Stored {
+        match self.memory.get(&who) {
+            Some(memory) => &memory.record,
+            None => &self.disk[&who],
+        }
+    }
+
+    fn has_error(&self, error: Error) -> bool {
+        self.error == Some(error)
+    }
+
+    fn heard(&self, tally: &Tally, sender: u32) -> bool {
+        !self.has_error(Error::CountsReceptions) && tally.senders.contains(&sender)
+    }
+
+    fn at_majority(&self, tally: &Tally) -> bool {
+        let size = if self.has_error(Error::CountsReceptions) { tally.receptions } else { tally.senders.len() };
+        size >= majority(self.n)
+    }
+
+    /// Why a delivery of this message to this process would be idle, if it would be.
+    pub fn why_idle(&self, to: u32, message: Message) -> Option<&'static str> {
+        self.idle(self.memory.get(&to)?, message)
+    }
+
+    fn idle(&self, me: &Memory, message: Message) -> Option<&'static str> {
+        let record = &me.record;
+        if record.decision.is_some() {
+            return Some("decided");
+        }
+        let round = message.round()?;
+        if round < record.round {
+            return Some("of_a_lower_round");
+        }
+        match message {
+            Message::E { from, .. } if round == record.round => {
+                if record.phase == 2 {
+                    Some("in_phase_2")
+                } else if self.heard(&me.estimates, from) {
+                    Some("repeated")
+                } else {
+                    None
+                }
+            }
+            Message::F { from, .. } if round == record.round => {
+                (record.phase == 2 && self.heard(&me.estimates, from)).then_some("repeated")
+            }
+            Message::S { from, .. } => {
+                if round != record.round {
+                    Some("of_a_higher_round")
+                } else if record.phase == 2 {
+                    Some("in_phase_2")
+                } else if self.heard(&me.suspicions, from) {
+                    Some("repeated")
+                } else {
+                    None
+                }
+            }
+            _ => None,
+        }
+    }
+
+    /// Refusal 2: no start and no step makes a damaged group, so this never speaks.
+    fn damaged(&self) -> bool {
+        let in_group = |p: &u32| (1..=self.n).contains(p);
+        !(1..=GREATEST_GROUP).contains(&self.n)
+            || (1..=self.n).any(|p| {
+                let record = self.record(p);
+                record.round > LAST_ROUND
+                    || !(1..=2).contains(&record.phase)
+                    || !in_group(&record.estimate.proposer)
+                    || self.memory.get(&p).is_some_and(|m| {
+                        !m.estimates.senders.iter().all(in_group) || !m.suspicions.senders.iter().all(in_group)
+                    })
+            })
+    }
+
+    /// The refusals in their order, and if there is none, what the step does.
+    fn attempt(&self, step: &Step) -> Result<Effect, Refusal> {
+        if self.damaged() {
+            return Err((2, "damaged_group"));
+        }
+        let who = step.who();
+        let in_group = |p: u32| (1..=self.n).contains(&p);
+        if !in_group(who) {
+            return Err((3, if who == 0 { "process_0" } else { "process_above_n" }));
+        }
+        if let Step::Deliver { message, .. } = step {
+            if !in_group(message.from()) {
+                return Err((3, if message.from() == 0 { "sender_0" } else { "sender_above_n" }));
+            }
+            if message.round().is_some_and(|round| round > LAST_ROUND) {
+                return Err((4, "round_above_63"));
+            }
+        }
+        if !self.is_up(who) && !matches!(step, Step::Recover { .. }) {
+            return Err((5, if self.paused.contains(&who) { "paused" } else { "crashed" }));
+        }
+        match *step {
+            Step::Deliver { message, .. } => {
+                let carried = match self.store.get(&message) {
+                    Some(carried) => *carried,
+                    None if self.kept_back.contains(&message) => return Err((6, "kept_back_by_a_cut")),
+                    None => return Err((6, "never_sent")),
+                };
+                if !in_group(carried.proposer) {
+                    return Err((2, "damaged_entry"));
+                }
+                self.deliver(who, message, carried)
+            }
+            Step::Suspect { .. } => self.suspect(who),
+            Step::Pause { .. } => Ok(Effect::Pause),
+            Step::Crash { .. } => Ok(Effect::Crash),
+            Step::Recover { .. } if self.is_up(who) => Err((7, "already_up")),
+            Step::Recover { .. } => Ok(Effect::Recover),
+        }
+    }
+
+    /// Which other refusals, or idleness, the one that is given stands ahead of.
+    pub fn stands_ahead_of(&self, step: &Step) -> Vec<String> {
+        let Err((first, _)) = self.attempt(step) else { return Vec::new() };
+        let who = step.who();
+        let mut names = Vec::new();
+        if let Step::Deliver { to, message, .. } = *step {
+            if message.round().is_some_and(|round| round > LAST_ROUND) && first < 4 {
+                names.push("4".to_string());
+            }
+            if first == 5 && !self.store.contains_key(&message) {
+                names.push("6".to_string());
+            }
+            if first == 5 && self.store.contains_key(&message) && self.why_idle(to, message).is_some() {
+                names.push("idle".to_string());
+            }
+        }
+        if (1..=self.n).contains(&who) {
+            if first < 5 && !self.is_up(who) {
+                names.push("5".to_string());
+            }
+            let record = self.record(who);
+            let possible = record.decision.is_none() && record.phase == 1 && !record.marked;
+            if first == 5 && matches!(step, Step::Suspect { .. }) && !possible {
+                names.push("7".to_string());
+            }
+        }
+        names.into_iter().map(|name| format!("refused_{}_ahead_of_{}", first, name)).collect()
+    }
+
+    fn suspect(&self, who: u32) -> Result<Effect, Refusal> {
+        let mut me = self.memory[&who].clone();
+        if me.record.decision.is_some() {
+            return Err((7, "decided"));
+        }
+        if me.record.phase != 1 {
+            return Err((7, "in_phase_2"));
+        }
+        if me.record.marked {
+            return Err((7, "already_marked"));
+        }
+        me.record.marked = true;
+        let message = Message::S { round: me.record.round, from: who };
+        Ok(Effect::Next(me, vec![(message, Estimate { proposer: who, value: 0 })], vec!["suspects"]))
+    }
+
+    fn deliver(&self, who: u32, message: Message, carried: Estimate) -> Result<Effect, Refusal> {
+        let mut me = self.memory[&who].clone();
+        if let Some(reason) = self.idle(&me, message) {
+            return Ok(Effect::Idle(reason));
+        }
+        let mut out = Vec::new();
+        let mut parts = Vec::new();
+        let mut round = me.record.round;
+        if let Some(higher) = message.round().filter(|r| *r > round) {
+            parts.push(match message {
+                Message::E { .. } => "E_jumps",
+                _ => "F_jumps",
+            });
+            if higher > round + 1 {
+                parts.push("jumps_over_rounds");
+            }
+            if me.record.phase == 2 {
+                parts.push("jumps_out_of_phase_2");
+            }
+            round = higher;
+            me.record.round = round;
+            me.record.phase = 1;
+            me.record.marked = false;
+            me.record.estimate = carried;
+            me.estimates = Tally::default();
+            me.suspicions = Tally::default();
+        }
+        let chair = coordinator(round, self.n);
+        match message {
+            Message::E { from, .. } => {
+                if me.estimates.senders.is_empty() && who != chair {
+                    me.record.estimate = carried;
+                    out.push((Message::E { round, from: who }, carried));
+                    parts.push(if from == chair { "E_of_the_coordinator_relayed" } else { "E_of_another_relayed" });
+                } else if me.estimates.senders.is_empty() {
+                    parts.push("E_first_heard_by_the_coordinator");
+                } else {
+                    parts.push("E_joins");
+                }
+                me.estimates.add(from);
+                if self.at_majority(&me.estimates) {
+                    let value = me.record.estimate.value;
+                    me.record.decision = Some(value);
+                    out.push((Message::Decision { from: who }, Estimate { proposer: who, value }));
+                    parts.push("E_decides");
+                }
+            }
+            Message::S { from, .. } => {
+                me.suspicions.add(from);
+                parts.push("S_joins");
+                if self.at_majority(&me.suspicions) {
+                    me.record.phase = 2;
+                    me.estimates = Tally::default();
+                    out.push((Message::F { round, from: who }, me.record.estimate));
+                    parts.push("S_to_phase_2");
+                }
+            }
+            Message::F { from, .. } => {
+                let to_phase_2 = me.record.phase == 1;
+                let before = me.record.estimate;
+                if to_phase_2 {
+                    me.record.phase = 2;
+                    me.estimates = Tally::default();
+                    parts.push("F_to_phase_2");
+                } else {
+                    parts.push("F_joins");
+                }
+                if carried.proposer == chair {
+                    parts.push(if before == carried { "F_takes_what_it_has" } else { "F_takes_the_estimate" });
+                    me.record.estimate = carried;
+                } else {
+                    parts.push("F_of_another_proposer");
+                }
+                if to_phase_2 {
+                    let late = self.has_error(Error::FAfterAdopting);
+                    out.push((Message::F { round, from: who }, if late { me.record.estimate } else { before }));
+                }
+                me.estimates.add(from);
+                if self.at_majority(&me.estimates) {
+                    let next = round + 1;
+                    if next > LAST_ROUND {
+                        return Err((8, "round_64"));
+                    }
+                    me.record.round = next;
+                    me.record.phase = 1;
+                    me.record.marked = false;
+                    me.record.estimate.proposer = who;
+                    me.estimates = Tally::default();
+                    me.suspicions = Tally::default();
+                    if coordinator(next, self.n) == who {
+                        out.push((Message::E { round: next, from: who }, me.record.estimate));
+                        parts.push("F_enters_a_round_and_coordinates");
+                    } else {
+                        parts.push("F_enters_a_round");
+                    }
+                }
+            }
+            Message::Decision { .. } => {
+                me.record.decision = Some(carried.value);
+                out.push((Message::Decision { from: who }, Estimate { proposer: who, value: carried.value }));
+                parts.push("Z_decides");
+            }
+        }
+        Ok(Effect::Next(me, out, parts))
+    }
+
+    fn hand_over(&mut self, messages: &[(Message, Estimate)]) -> u64 {
+        let mut sent = 0;
+        for (message, carried) in messages {
+            if self.store.insert(*message, *carried).is_none() {
+                sent += 1;
+            }
+        }
+        sent
+    }
+
+    fn crash(&mut self, who: u32) {
+        self.memory.remove(&who);
+    }
+
+    pub fn step(&mut self, step: &Step) -> Told {
+        let who = step.who();
+        let mut told = Told { outcome: Outcome::Applied, handed_over: Vec::new(), sent: 0, decided: false, parts: Vec::new() };
+        let effect = match self.attempt(step) {
+            Ok(effect) => effect,
+            Err((number, cause)) => {
+                told.outcome = Outcome::Refused(number, cause);
+                return told;
+            }
+        };
+        match effect {
+            Effect::Idle(reason) if step.is_cut() => {
+                told.parts = vec!["idle", reason];
+                self.crash(who);
+            }
+            Effect::Idle(reason) => told.outcome = Outcome::Idle(reason),
+            Effect::Next(next, messages, parts) => {
+                told.parts = parts;
+                if step.is_cut() && self.has_error(Error::HandsOverBeforeStoring) {
+                    // The error: the messages are out, the record is not stored.
+                    told.sent = self.hand_over(&messages);
+                    told.handed_over = messages;
+                    self.crash(who);
+                    return told;
+                }
+                told.decided = self.record(who).decision.is_none() && next.record.decision.is_some();
+                self.disk.insert(who, next.record.clone());
+                if step.is_cut() {
+                    self.kept_back.extend(messages.iter().map(|(message, _)| *message));
+                    self.crash(who);
+                } else {
+                    self.memory.insert(who, next);
+                    told.sent = self.hand_over(&messages);
+                    if told.sent < messages.len() as u64 {
+                        told.parts.push("handed_over_again");
+                    }
+                    told.handed_over = messages;
+                }
+            }
+            Effect::Pause => {
+                told.parts.push("pauses");
+                self.paused.insert(who);
+                if self.has_error(Error::PauseEmptiesTallies) {
+                    let me = self.memory.get_mut(&who).expect("an up process has a memory");
+                    me.estimates = Tally::default();
+                    me.suspicions = Tally::default();
+                }
+            }
+            Effect::Crash => {
+                let record = self.record(who);
+                told.parts.push(match (record.decision, record.phase) {
+                    (Some(_), _) => "crashes_decided",
+                    (None, 2) => "crashes_in_phase_2",
+                    _ => "crashes_in_phase_1",
+                });
+                self.crash(who);
+            }
+            Effect::Recover => {
+                if self.paused.remove(&who) {
+                    told.parts.push("recovers_from_a_pause");
+                } else {
+                    let mut record = self.disk[&who].clone();
+                    told.parts.push(match (record.decision, record.phase) {
+                        (Some(_), _) => "recovers_decided",
+                        (None, 2) => "recovers_in_phase_2",
+                        _ => "recovers_in_phase_1",
+                    });
+                    if self.has_error(Error::BackInPhase1) {
+                        record.phase = 1;
+                    }
+                    self.memory.insert(who, Memory { record, estimates: Tally::default(), suspicions: Tally::default() });
+                }
+            }
+        }
+        told
+    }
+}
