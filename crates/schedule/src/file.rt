@@ -2,6 +2,7 @@
 // A file is sound, or has one fault: its number and its line.
 ghost use mathlib.Core.Path.{_≡_};
 ghost use Prim.Native.Nat.{_≤_, _<_, _^_};
+ghost use Rattle.rules.specs.Limits.{greatestSize};
 ghost use Rattle.schedule.specs.Limits as limits;
 ghost use Rattle.schedule.specs.Schedule.{noFault, faultAt};
 ghost use Rattle.schedule.specs.Parts.{LastLf, ValuesAre, StepsAre, FormIs};
@@ -28,7 +29,7 @@ impl Fault {
     }
 }
 
-// The file's limits and its section words.
+// The limits of a file.
 pub struct File {}
 
 impl File {
@@ -147,7 +148,7 @@ pub(crate) fn read_opening(s: &[u8], end: usize) -> Opening
 
 // The WARMUP and MEASURED sections from a place on, behind n value lines, to the end of the file.
 pub(crate) fn read_sections(s: &[u8], end: usize, n: u32, at: usize) -> Sections
-    requires { ⌜ LastLf (now s) end × (n ≤ 16) ⌝ }
+    requires { ⌜ LastLf (now s) end × (n ≤ greatestSize) ⌝ }
     ensures { λ r. ⌜ StepsAre (now (s .entry)) n at r ⌝ }
 {
     match part_at(s, at, end, b"WARMUP", n + 2, File::MOST_STEPS) {

@@ -3,6 +3,7 @@ ghost use mathlib.Core.Path.{_≡_};
 ghost use mathlib.Core.List.{_++_};
 ghost use Prim.Native.Nat.{_+_, _*_, _≤_};
 ghost use lib.ListN.{length};
+ghost use Rattle.rules.specs.Limits.{greatestSize};
 ghost use Rattle.schedule.specs.Report as reports;
 ghost use Rattle.schedule.specs.Put.{Wrote};
 use crate::counts::Counts;
@@ -132,7 +133,7 @@ pub(crate) fn put_process(out: &mut [u8], at: usize, group: Group, i: u32) -> us
 }
 
 pub(crate) fn put_processes(out: &mut [u8], at: usize, group: Group) -> usize
-    requires { ⌜ (group .n ≤ 16) × (at + group .n * 71 ≤ length (now out)) ⌝ }
+    requires { ⌜ (group .n ≤ greatestSize) × (at + group .n * 71 ≤ length (now out)) ⌝ }
     ensures { λ r. ⌜ Wrote (now (out .entry)) at (reports.processLines group (group .n)) (now (out .exit)) r ⌝ }
 {
     let n = group.n as u32;
@@ -148,7 +149,7 @@ pub(crate) fn put_processes(out: &mut [u8], at: usize, group: Group) -> usize
 // ---- the report whole
 
 pub(crate) fn put_done(out: &mut [u8], at: usize, ran: Ran) -> usize
-    requires { ⌜ (ran .group .n ≤ 16) × (at + 1375 ≤ length (now out)) ⌝ }
+    requires { ⌜ (ran .group .n ≤ greatestSize) × (at + 1375 ≤ length (now out)) ⌝ }
     ensures { λ r. ⌜ Wrote (now (out .entry)) at (reports.doneText ran) (now (out .exit)) r ⌝ }
 {
     let warmup = ran.warmup;

@@ -1,6 +1,7 @@
 // The value lines: a decimal and LF each, read into an array.
 ghost use mathlib.Core.Path.{_≡_};
 ghost use Prim.Native.Nat.{_≤_};
+ghost use Rattle.rules.specs.Limits.{greatestSize};
 ghost use Rattle.schedule.specs.Values.{valueAt};
 ghost use Rattle.schedule.specs.Lines.{linesAt};
 ghost use Rattle.schedule.specs.Parts.{LastLf, numberOf, valuesRead};
@@ -37,7 +38,7 @@ pub(crate) fn value_at(s: &[u8], at: usize, end: usize) -> Number
 
 // The values of n lines from a place on; where a line is faulty, those before it.
 pub(crate) fn read_values(s: &[u8], at: usize, end: usize, n: usize) -> Values
-    requires { ⌜ LastLf (now s) end × (n ≤ 16) ⌝ }
+    requires { ⌜ LastLf (now s) end × (n ≤ greatestSize) ⌝ }
     ensures { λ r. ⌜ linesAt (valueAt (now (s .entry))) n 0 at ≡ valuesRead n r ⌝ }
 {
     let mut values = [0u32; Group::GREATEST];
