@@ -21,7 +21,7 @@ use Rattle.rules.proofs.Safety.Theorem.{safety}
 use Rattle.schedule.specs.Number.{most}
 use Rattle.schedule.specs.Counts.{none, isRefused, counted, countedAll}
 use Rattle.schedule.specs.Schedule.{Schedule, Reading, sound, readFile, Every, Fits}
-use Rattle.schedule.specs.Run.{outcome, countsOf, begins, between, ends, hasRun, runBy, runOf}
+use Rattle.schedule.specs.Run.{outcome, countsOf, begins, between, atEnd, hasRun, runBy, runOf}
 use Rattle.schedule.specs.Promise.{AddsUp, decidedIn, Decided, Promise, Promised}
 use Rattle.schedule.specs.declared.counts.Counts.{Counts}
 use Rattle.schedule.proofs.FileLaws.{file-read}
@@ -111,20 +111,20 @@ fits-begins h l f long =
 
 module _ (h : Schedule) (l : List ℕ) (b : Begins (h .values) l) where
   -- the end is the state after the steps of both sections
-  end-is : at (h .values) l (h .warmup ++ h .measured) ≡ ends h l
+  end-is : at (h .values) l (h .warmup ++ h .measured) ≡ atEnd h l
   end-is = after-more (begins h l) (h .warmup) (h .measured)
 
-  sent-both : sentIn (ends h l .store) storeLength ≡ 1 + (countsOf (begins h l) (h .warmup) .sent + countsOf (between h l) (h .measured) .sent)
+  sent-both : sentIn (atEnd h l .store) storeLength ≡ 1 + (countsOf (begins h l) (h .warmup) .sent + countsOf (between h l) (h .measured) .sent)
   sent-both =
       let all = sent-counts (h .values) l (h .warmup ++ h .measured) b in
-      let same : sentIn (at (h .values) l (h .warmup ++ h .measured) .store) storeLength ≡ sentIn (ends h l .store) storeLength =
+      let same : sentIn (at (h .values) l (h .warmup ++ h .measured) .store) storeLength ≡ sentIn (atEnd h l .store) storeLength =
       ap (λ (a : State). sentIn (a .store) storeLength) end-is in
       let parts = sent-more (begins h l) (h .warmup) (h .measured) in
       let one = section-sent (begins h l) (h .warmup) in
       let two = section-sent (between h l) (h .measured) in
       omega arith
 
-  decided-both : decidedIn (ends h l .group) ≡ countsOf (begins h l) (h .warmup) .decided + countsOf (between h l) (h .measured) .decided
+  decided-both : decidedIn (atEnd h l .group) ≡ countsOf (begins h l) (h .warmup) .decided + countsOf (between h l) (h .measured) .decided
   unfolding countsOf none
   decided-both =
       let r = reached-start (h .values) l in
@@ -134,10 +134,10 @@ module _ (h : Schedule) (l : List ℕ) (b : Begins (h .values) l) where
       omega arith
 
   -- a decision that the group at the end holds is one of the run's
-  held : (i v : ℕ) → Decided (ends h l .group) i v → Holds (at (h .values) l (h .warmup ++ h .measured)) i v
+  held : (i v : ℕ) → Decided (atEnd h l .group) i v → Holds (at (h .values) l (h .warmup ++ h .measured)) i v
   held i v d = subst (λ (a : State). Holds a i v) (sym end-is) (record { decided = d .decided; decision = d .decision })
 
-  run-promise : Promise h (outcome (hasRun h l) (ends h l .store))
+  run-promise : Promise h (outcome (hasRun h l) (atEnd h l .store))
   unfolding hasRun
   run-promise =
       record {
@@ -151,7 +151,7 @@ module _ (h : Schedule) (l : List ℕ) (b : Begins (h .values) l) where
         validity = λ i v o d. safety .validity (h .values) l (h .warmup ++ h .measured) b i v o (held i v d);
       }
 
-run-is : (s l : List ℕ) (h : Schedule) → readFile s ≡ sound h → runOf s l ≡ outcome (hasRun h l) (ends h l .store)
+run-is : (s l : List ℕ) (h : Schedule) → readFile s ≡ sound h → runOf s l ≡ outcome (hasRun h l) (atEnd h l .store)
 unfolding runOf runBy
 run-is s l h e = ap (λ (r : Reading). runBy r l) e
 

@@ -6,6 +6,7 @@ use Rattle.rules.specs.Answers.{Said}
 use Rattle.rules.specs.Tally.{bitOf}
 use Rattle.schedule.specs.declared.counts.Counts.{Counts}
 
+-- of no steps
 unfoldable pub none : Counts
 none = record { steps = 0; applied = 0; idle = 0; refused = 0; sent = 0; decided = 0 }
 

@@ -6,7 +6,7 @@ use Prim.Native.Nat.{ℕ, _+_}
 use lib.Dec.{eqb, ltb}
 use lib.ListN.{length, getD}
 use Rattle.schedule.specs.Number.{pick}
-use Rattle.schedule.specs.Line.{spaced, ending, onNumber, spacedAt}
+use Rattle.schedule.specs.Line.{lineFeed, spaced, ending, onNumber, spacedAt}
 use Rattle.schedule.specs.declared.number.Number.{Number}
 use Rattle.schedule.specs.declared.number.Number.the-variants.{Bad, Value}
 use Rattle.schedule.specs.declared.header.Word.{Word}
@@ -37,7 +37,7 @@ wordAt s at (b ∷ w) = pick (ltb at (length s)) (pick (eqb (getD s at 0) b) (wo
 
 -- a space, a number and LF
 unfoldable pub aloneAt : List ℕ → ℕ → Number
-aloneAt s at = onNumber (spacedAt s at) Bad (λ v n. pick (eqb (getD s n 0) 10) (Value v (n + 1)) Bad)
+aloneAt s at = onNumber (spacedAt s at) Bad (λ v n. pick (eqb (getD s n 0) lineFeed) (Value v (n + 1)) Bad)
 
 unfoldable pub headerAt : List ℕ → ℕ → List ℕ → Number
 headerAt s at w = onWord (wordAt s at w) Bad (λ n. aloneAt s n)

@@ -12,27 +12,64 @@ use Rattle.schedule.specs.Lines.{Item, broken, item}
 use Rattle.schedule.specs.declared.number.Number.{Number}
 use Rattle.schedule.specs.declared.number.Number.the-variants.{Bad, Value}
 
+-- ---- the bytes of a step line, each once
+
+-- the step letters: `E`, `S`, `F`, `Z`, `Q`, `P`, `C`, `R`
+abbrev pub letterE : ℕ
+letterE = 69
+
+abbrev pub letterS : ℕ
+letterS = 83
+
+abbrev pub letterF : ℕ
+letterF = 70
+
+abbrev pub letterZ : ℕ
+letterZ = 90
+
+abbrev pub letterQ : ℕ
+letterQ = 81
+
+abbrev pub letterP : ℕ
+letterP = 80
+
+abbrev pub letterC : ℕ
+letterC = 67
+
+abbrev pub letterR : ℕ
+letterR = 82
+
+-- a space, the `X` of a cut, and LF
+abbrev pub spaceByte : ℕ
+spaceByte = 32
+
+abbrev pub letterX : ℕ
+letterX = 88
+
+abbrev pub lineFeed : ℕ
+lineFeed = 10
+
 -- ---- how a step is spelled
 
 -- "Lines end with LF"; "` X` at the end of E, S, F, Z or Q is a cut"
 abbrev pub ending : Bool → List ℕ
-ending true = 32 ∷ 88 ∷ 10 ∷ []
-ending false = 10 ∷ []
+ending true = spaceByte ∷ letterX ∷ lineFeed ∷ []
+ending false = lineFeed ∷ []
 
 -- "one space between words": a number behind a space, before the rest of the line
 abbrev pub spaced : ℕ → List ℕ → List ℕ
-spaced v l = 32 ∷ (spelled v ++ l)
+spaced v l = spaceByte ∷ (spelled v ++ l)
 
 -- "`E`, `S`, `F`: to, from, round. `Z` (decision): to, from. `Q` (suspect), `P` (pause), `C` (crash), `R` (recover): the process."
 abbrev pub lineOf : Step → List ℕ
-lineOf (DeliverE i j r x) = 69 ∷ spaced i (spaced j (spaced r (ending x)))
-lineOf (DeliverS i j r x) = 83 ∷ spaced i (spaced j (spaced r (ending x)))
-lineOf (DeliverF i j r x) = 70 ∷ spaced i (spaced j (spaced r (ending x)))
-lineOf (DeliverDecision i j x) = 90 ∷ spaced i (spaced j (ending x))
-lineOf (Suspect i x) = 81 ∷ spaced i (ending x)
-lineOf (Pause i) = 80 ∷ spaced i (ending false)
-lineOf (Crash i) = 67 ∷ spaced i (ending false)
-lineOf (Recover i) = 82 ∷ spaced i (ending false)
+lineOf (DeliverE i j r x) = letterE ∷ spaced i (spaced j (spaced r (ending x)))
+lineOf (DeliverS i j r x) = letterS ∷ spaced i (spaced j (spaced r (ending x)))
+lineOf (DeliverF i j r x) = letterF ∷ spaced i (spaced j (spaced r (ending x)))
+lineOf (DeliverDecision i j x) = letterZ ∷ spaced i (spaced j (ending x))
+lineOf (Suspect i x) = letterQ ∷ spaced i (ending x)
+lineOf (Pause i) = letterP ∷ spaced i (ending false)
+lineOf (Crash i) = letterC ∷ spaced i (ending false)
+lineOf (Recover i) = letterR ∷ spaced i (ending false)
 
 -- each number of a step is one that a file can hold
 abbrev pub Holdable : Step → Type 0
@@ -50,30 +87,30 @@ Holdable (Recover i) = i ≤ most
 -- how many numbers follow a letter. "Any other letter is refusal 9": none do
 unfoldable pub numbersAfter : ℕ → ℕ
 numbersAfter b =
-    pick (eqb b 69) 3
-    (pick (eqb b 83) 3
-    (pick (eqb b 70) 3
-    (pick (eqb b 90) 2
-    (pick (eqb b 81) 1
-    (pick (eqb b 80) 1
-    (pick (eqb b 67) 1
-    (pick (eqb b 82) 1
+    pick (eqb b letterE) 3
+    (pick (eqb b letterS) 3
+    (pick (eqb b letterF) 3
+    (pick (eqb b letterZ) 2
+    (pick (eqb b letterQ) 1
+    (pick (eqb b letterP) 1
+    (pick (eqb b letterC) 1
+    (pick (eqb b letterR) 1
     0)))))))
 
 -- whether the step of a letter may be cut
 unfoldable pub mayCut : ℕ → Bool
-mayCut b = pick (eqb b 80) false (pick (eqb b 67) false (pick (eqb b 82) false true))
+mayCut b = pick (eqb b letterP) false (pick (eqb b letterC) false (pick (eqb b letterR) false true))
 
 -- the step of a letter with its numbers
 unfoldable pub stepOf : ℕ → ℕ → ℕ → ℕ → Bool → Step
 stepOf b i j r x =
-    pick (eqb b 69) (DeliverE i j r x)
-    (pick (eqb b 83) (DeliverS i j r x)
-    (pick (eqb b 70) (DeliverF i j r x)
-    (pick (eqb b 90) (DeliverDecision i j x)
-    (pick (eqb b 81) (Suspect i x)
-    (pick (eqb b 80) (Pause i)
-    (pick (eqb b 67) (Crash i)
+    pick (eqb b letterE) (DeliverE i j r x)
+    (pick (eqb b letterS) (DeliverS i j r x)
+    (pick (eqb b letterF) (DeliverF i j r x)
+    (pick (eqb b letterZ) (DeliverDecision i j x)
+    (pick (eqb b letterQ) (Suspect i x)
+    (pick (eqb b letterP) (Pause i)
+    (pick (eqb b letterC) (Crash i)
     (Recover i)))))))
 
 -- going on after a number, or after a line's end: what a bad one gives, and what it gives where it is there
@@ -91,7 +128,7 @@ onEnd (ends x n) z f = f x n
 
 -- a space and a number
 unfoldable pub spacedAt : List ℕ → ℕ → Number
-spacedAt s at = pick (eqb (getD s at 0) 32) (numberAt s (at + 1)) Bad
+spacedAt s at = pick (eqb (getD s at 0) spaceByte) (numberAt s (at + 1)) Bad
 
 -- the same where one more number is wanted
 unfoldable pub nextNumber : List ℕ → ℕ → Bool → Number
@@ -100,11 +137,11 @@ nextNumber s at wanted = pick wanted (spacedAt s at) (Value 0 at)
 -- LF, or ` X` and LF where the step may be cut
 unfoldable pub endAt : List ℕ → ℕ → Bool → End
 endAt s at may =
-    pick (eqb (getD s at 0) 10) (ends false (at + 1))
+    pick (eqb (getD s at 0) lineFeed) (ends false (at + 1))
     (pick may
-    (pick (eqb (getD s at 0) 32)
-    (pick (eqb (getD s (at + 1) 0) 88)
-    (pick (eqb (getD s (at + 2) 0) 10) (ends true (at + 3)) noEnd)
+    (pick (eqb (getD s at 0) spaceByte)
+    (pick (eqb (getD s (at + 1) 0) letterX)
+    (pick (eqb (getD s (at + 2) 0) lineFeed) (ends true (at + 3)) noEnd)
     noEnd)
     noEnd)
     noEnd)

@@ -10,6 +10,7 @@ use Rattle.rules.specs.declared.process.Process.{Process}
 use Rattle.schedule.specs.Number.{pick, spelled}
 use Rattle.schedule.specs.Put.{Wrote}
 use Rattle.schedule.specs.Run.{runOf}
+use Rattle.schedule.specs.Line.{spaceByte, lineFeed}
 use Rattle.schedule.specs.Header.{warmupWord, measuredWord}
 use Rattle.schedule.specs.declared.counts.Counts.{Counts}
 use Rattle.schedule.specs.declared.file.Fault.{Fault}
@@ -17,10 +18,10 @@ use Rattle.schedule.specs.declared.run.Ran.{Ran}
 
 -- the fixed texts, byte by byte
 abbrev pub space : List ℕ
-space = 32 ∷ []
+space = spaceByte ∷ []
 
 abbrev pub lf : List ℕ
-lf = 10 ∷ []
+lf = lineFeed ∷ []
 
 -- `BAD `
 abbrev pub badText : List ℕ

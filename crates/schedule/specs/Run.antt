@@ -30,8 +30,8 @@ begins h l = startState (h .values) l
 abbrev pub between : Schedule → List ℕ → State
 between h l = after (begins h l) (h .warmup)
 
-abbrev pub ends : Schedule → List ℕ → State
-ends h l = after (between h l) (h .measured)
+abbrev pub atEnd : Schedule → List ℕ → State
+atEnd h l = after (between h l) (h .measured)
 
 -- what is answered to a sound file: no fault, the counts of its two sections, and the group at the end
 unfoldable pub hasRun : Schedule → List ℕ → Ran
@@ -40,7 +40,7 @@ hasRun h l =
       fault = noFault;
       warmup = countsOf (begins h l) (h .warmup);
       measured = countsOf (between h l) (h .measured);
-      group = ends h l .group;
+      group = atEnd h l .group;
     }
 
 -- and to a faulty one: the fault, no counts, and a group of size 0
@@ -50,7 +50,7 @@ notRun f = record { fault = f; warmup = none; measured = none; group = blankGrou
 -- "no step is run" where the file is faulty
 unfoldable pub runBy : Reading → List ℕ → Outcome
 runBy (faulty f) l = outcome (notRun f) l
-runBy (sound h) l = outcome (hasRun h l) (ends h l .store)
+runBy (sound h) l = outcome (hasRun h l) (atEnd h l .store)
 
 unfoldable pub runOf : List ℕ → List ℕ → Outcome
 runOf s l = runBy (readFile s) l

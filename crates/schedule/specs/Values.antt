@@ -5,7 +5,7 @@ use Prim.Native.Nat.{ℕ, _+_}
 use lib.Dec.{eqb}
 use lib.ListN.{getD}
 use Rattle.schedule.specs.Number.{pick, numberAt, spelled}
-use Rattle.schedule.specs.Line.{onNumber, ending}
+use Rattle.schedule.specs.Line.{lineFeed, onNumber, ending}
 use Rattle.schedule.specs.Lines.{Item, broken, item}
 
 -- the line of a value
@@ -14,4 +14,4 @@ valueLine v = spelled v ++ ending false
 
 -- the value line at a place
 unfoldable pub valueAt : List ℕ → ℕ → Item ℕ
-valueAt s at = onNumber (numberAt s at) broken (λ v n. pick (eqb (getD s n 0) 10) (item v (n + 1)) broken)
+valueAt s at = onNumber (numberAt s at) broken (λ v n. pick (eqb (getD s n 0) lineFeed) (item v (n + 1)) broken)

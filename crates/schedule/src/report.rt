@@ -4,6 +4,7 @@ ghost use mathlib.Core.List.{_++_};
 ghost use Prim.Native.Nat.{_+_, _*_, _≤_};
 ghost use lib.ListN.{length};
 ghost use Rattle.rules.specs.Limits.{greatestSize};
+ghost use Rattle.schedule.specs.Limits as limits;
 ghost use Rattle.schedule.specs.Report as reports;
 ghost use Rattle.schedule.specs.Put.{Wrote};
 use crate::counts::Counts;
@@ -22,6 +23,13 @@ pub struct Report {}
 impl Report {
     // No report is longer: with ten digits to a number a section's line has at most 109 bytes, the line of PROCESSES 21, and each of 16 process lines 71.
     pub const LONGEST: usize = 1375;
+
+    // The constant is the definitions' limit.
+    pub(crate) fn longest() -> usize
+        ensures { λ r. ⌜ r ≡ limits.longestReport ⌝ }
+    {
+        Report::LONGEST
+    }
 }
 
 // ---- the one line of a faulty file
@@ -149,7 +157,7 @@ pub(crate) fn put_processes(out: &mut [u8], at: usize, group: Group) -> usize
 // ---- the report whole
 
 pub(crate) fn put_done(out: &mut [u8], at: usize, ran: Ran) -> usize
-    requires { ⌜ (ran .group .n ≤ greatestSize) × (at + 1375 ≤ length (now out)) ⌝ }
+    requires { ⌜ (ran .group .n ≤ greatestSize) × (at + limits.longestReport ≤ length (now out)) ⌝ }
     ensures { λ r. ⌜ Wrote (now (out .entry)) at (reports.doneText ran) (now (out .exit)) r ⌝ }
 {
     let warmup = ran.warmup;
