@@ -18,24 +18,24 @@ use Rattle.rules.specs.declared.step.Step.the-variants.{DeliverE, Delive
 use Rattle.rules.specs.declared.course.Address.the-variants.{Misses, At}
 use Rattle.rules.specs.declared.course.Course.{Course}
 use Rattle.rules.specs.declared.course.Course.the-variants.{Idles, Refuses, Takes}
-use Rattle.rules.specs.Limits.{greatestSize, lastRound, storeLength, among}
+use Rattle.rules.specs.Limits.{greatestSize, lastRound, mostRecoveries, storeLength, among}
 use Rattle.rules.specs.Records.{processAt, withProcess}
 use Rattle.rules.specs.Store.{proposerOf, placeOf, handOver, turned}
 use Rattle.rules.specs.Answers.{outcome, refused, saysApplied, saysIdle}
 use Rattle.rules.specs.Events.{cutIf}
 use Rattle.rules.specs.Steps.{takerOf, numbersOf, roundOf, delivers, slotOf, isCut, entryIn, eventOf}
 use Rattle.rules.specs.Idle.{idle}
-use Rattle.rules.specs.Refusals.{row, every, short, damaged, strange, late, isRecover, down, unsent, misnamed, maySuspect, impossible, entersPast, refusal}
+use Rattle.rules.specs.Refusals.{row, every, short, damaged, strange, late, isRecover, down, unsent, misnamed, maySuspect, impossible, recoversPast, entersPast, refusal}
 use Rattle.rules.specs.Step.{orIdle, unlessRefused, course, handOvers, sentBy, decidesNow, settled, stepped}
 use Rattle.rules.specs.Parts.{numberRows, unlessMissed, addressOf, heldRows, unlessPast, orPast, orImpossible, orUp, lastCourse, unlessHeld, heldCourse, Ready, Numbered, Handable}
 use Rattle.rules.proofs.RowLaws.{orElse, number-else, held-else, delivered-zero, owned-zero, held-zero}
-use Rattle.rules.proofs.StepLaws.{up-yes, up-no}
+use Rattle.rules.proofs.StepLaws.{up-yes, up-many, up-no}
 use Rattle.rules.proofs.SoundLaws.{sound-facts, Fine, course-fine}
 use Rattle.rules.specs.Tally.{bitOf}
 
--- the rows that are left to every step: 7 and 8
+-- the rows that are left to every step: 7, 13 and 8
 abbrev rest : Group → List ℕ → Step → ℕ
-rest g l s = row (impossible g s) 7 (row (entersPast g l s) 8 0)
+rest g l s = row (impossible g s) 7 (row (recoversPast g s) 13 (row (entersPast g l s) 8 0))
 
 -- rows 11 and 2 fall away
 ready : (g : Group) (l : List ℕ) (s : Step) → Ready g l
@@ -82,7 +82,7 @@ else-next part after e = rw e
 -- ---- the rows as the code tests them
 
 module _ (g : Group) (l : List ℕ) (s : Step) (h : Ready g l) where
-  -- those of the step's numbers, then those of the record and the entry, then 7 and 8
+  -- those of the step's numbers, then those of the record and the entry, then 7, 13 and 8
   parts-refusal : refusal g l s
       ≡ orElse (numberRows (g .n) s) (orElse (heldRows (g .n) (processAt g (takerOf s) .up) (entryIn l s) (delivers s) (isRecover s)) (rest g l s))
   unfolding strange down unsent misnamed
@@ -101,7 +101,7 @@ module _ (g : Group) (l : List ℕ) (s : Step) (h : Ready g l) where
       → ¬ (k ≡ 0) → Refuses k ≡ course g l s
   held-refuse z a b = refuses g l s (parts-refusal ∙ else-next _ _ z ∙ else-first _ _ a b) b
 
-  -- refused by 7 or 8, or not
+  -- refused by 7, 13 or 8, or not
   held-pass : numberRows (g .n) s ≡ 0 → heldRows (g .n) (processAt g (takerOf s) .up) (entryIn l s) (delivers s) (isRecover s) ≡ 0
       → refusal g l s ≡ rest g l s
   held-pass z y = parts-refusal ∙ else-next _ _ z ∙ else-next _ _ y
@@ -124,27 +124,29 @@ past-course g l s z = go (idle g s) (ltb lastRound (eventOf g l s .process .roun
 -- a suspicion: taken where it is possible, refused by 7 where it is not
 suspect-course : (g : Group) (l : List ℕ) (i : ℕ) (c : Bool) → refusal g l (Suspect i c) ≡ rest g l (Suspect i c)
     → orImpossible (maySuspect (processAt g i)) c i (processAt g i) ≡ course g l (Suspect i c)
-unfolding impossible entersPast row orIdle idle isCut takerOf eventOf orImpossible
+unfolding impossible recoversPast entersPast row orIdle idle isCut takerOf eventOf orImpossible
 suspect-course g l i c z = go (maySuspect (processAt g i)) refl
   where
     go : (m : Bool) → maySuspect (processAt g i) ≡ m → orImpossible (maySuspect (processAt g i)) c i (processAt g i) ≡ course g l (Suspect i c)
     go true e = rw e (passes g l (Suspect i c) (z ∙ rw e))
     go false e = rw e (refuses g l (Suspect i c) (z ∙ rw e) (λ a. omega arith))
 
--- a recovery: refused by 7 where the process is up, taken where it is down
+-- a recovery: refused by 7 where the process is up and by 13 where it would be too many, else taken
 recover-course : (g : Group) (l : List ℕ) (i : ℕ) → refusal g l (Recover i) ≡ rest g l (Recover i)
     → orUp (processAt g i .up) i (processAt g i) ≡ course g l (Recover i)
-unfolding impossible entersPast row orIdle idle isCut takerOf eventOf cutIf
-recover-course g l i z = go (processAt g i .up) refl
+unfolding impossible recoversPast entersPast row orIdle idle isCut takerOf eventOf cutIf
+recover-course g l i z = go (processAt g i .up) (ltb mostRecoveries (processAt g i .recoveries + 1)) refl refl
   where
-    go : (u : Bool) → processAt g i .up ≡ u → orUp (processAt g i .up) i (processAt g i) ≡ course g l (Recover i)
-    go true e = sym (up-yes i (processAt g i) e) ∙ refuses g l (Recover i) (z ∙ rw e) (λ a. omega arith)
-    go false e = sym (up-no i (processAt g i) e) ∙ passes g l (Recover i) (z ∙ rw e)
+    go : (u m : Bool) → processAt g i .up ≡ u → ltb mostRecoveries (processAt g i .recoveries + 1) ≡ m
+        → orUp (processAt g i .up) i (processAt g i) ≡ course g l (Recover i)
+    go true m e f = sym (up-yes i (processAt g i) e) ∙ refuses g l (Recover i) (z ∙ rw e) (λ a. omega arith)
+    go false true e f = sym (up-many i (processAt g i) e f) ∙ refuses g l (Recover i) (z ∙ rw (e, f)) (λ a. omega arith)
+    go false false e f = sym (up-no i (processAt g i) e f) ∙ passes g l (Recover i) (z ∙ rw (e, f))
 
 -- every kind
 last-course : (g : Group) (l : List ℕ) (s : Step) → refusal g l s ≡ rest g l s
     → lastCourse (g .n) (takerOf s) (entryIn l s) (processAt g (takerOf s)) s ≡ course g l s
-unfolding lastCourse impossible entersPast row orIdle idle isCut takerOf eventOf cutIf
+unfolding lastCourse impossible recoversPast entersPast row orIdle idle isCut takerOf eventOf cutIf
 last-course g l (DeliverE i j r c) z = passes g l (DeliverE i j r c) z
 last-course g l (DeliverS i j r c) z = passes g l (DeliverS i j r c) z
 last-course g l (DeliverF i j r c) z = past-course g l (DeliverF i j r c) z

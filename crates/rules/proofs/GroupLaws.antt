@@ -10,7 +10,7 @@ use lib.ListN.{length, getD, set, length-set, getD-replicate}
 use lib.Seq.{getD-set-same, getD-set-other}
 use Rattle.rules.specs.declared.group.Group.{Group}
 use Rattle.rules.specs.declared.process.Process.{Process}
-use Rattle.rules.specs.Records.{processAt, withProcess, Sized, put₂, put₃, blank, blankGroup}
+use Rattle.rules.specs.Records.{processAt, withProcess, Sized, put₂, put₃, put₄, blank, blankGroup}
 use Rattle.rules.specs.Start.{startedTo, fresh}
 
 -- ---- a list in columns of 16
@@ -25,6 +25,9 @@ module _ {A : Type 0} (l : List A) (i : ℕ) (a b d : A) (hi : i ≤ 16) where
 
     kept₃ : (c : A) → getD (put₃ l i a b c) k d ≡ getD l k d
     kept₃ c = getD-set-other (put₂ l i a b) (32 + (i - 1)) k c d (λ e. ne (omega arith)) ∙ kept₂
+
+    kept₄ : (c f : A) → getD (put₄ l i a b c f) k d ≡ getD l k d
+    kept₄ c f = getD-set-other (put₃ l i a b c) (48 + (i - 1)) k f d (λ e. ne (omega arith)) ∙ kept₃ c
 
   module _ (lo : 1 ≤ i) where
     first₂ : 32 ≤ length l → getD (put₂ l i a b) (i - 1) d ≡ a
@@ -44,6 +47,24 @@ module _ {A : Type 0} (l : List A) (i : ℕ) (a b d : A) (hi : i ≤ 16) where
         getD-set-same (put₂ l i a b) (32 + (i - 1)) c d
         (omega (arith, length-set (set l (i - 1) a) (16 + (i - 1)) b, length-set l (i - 1) a))
 
+    -- the fourth column is put in last, and the three others stay
+    ahead₄ : (c f : A) (k : ℕ) → k < 48 → getD (put₄ l i a b c f) k d ≡ getD (put₃ l i a b c) k d
+    ahead₄ c f k s = getD-set-other (put₃ l i a b c) (48 + (i - 1)) k f d (omega arith)
+
+    first₄ : (c f : A) → 64 ≤ length l → getD (put₄ l i a b c f) (i - 1) d ≡ a
+    first₄ c f s = ahead₄ c f (i - 1) (omega arith) ∙ first₃ c (omega arith)
+
+    second₄ : (c f : A) → 64 ≤ length l → getD (put₄ l i a b c f) (16 + (i - 1)) d ≡ b
+    second₄ c f s = ahead₄ c f (16 + (i - 1)) (omega arith) ∙ second₃ c (omega arith)
+
+    third₄ : (c f : A) → 64 ≤ length l → getD (put₄ l i a b c f) (32 + (i - 1)) d ≡ c
+    third₄ c f s = ahead₄ c f (32 + (i - 1)) (omega arith) ∙ third₃ c (omega arith)
+
+    fourth₄ : (c f : A) → 64 ≤ length l → getD (put₄ l i a b c f) (48 + (i - 1)) d ≡ f
+    fourth₄ c f s =
+        getD-set-same (put₃ l i a b c) (48 + (i - 1)) f d
+        (omega (arith, length-set (put₂ l i a b) (32 + (i - 1)) c, length-set (set l (i - 1) a) (16 + (i - 1)) b, length-set l (i - 1) a))
+
 -- ---- a group
 
 -- the process that was put in comes out
@@ -52,13 +73,14 @@ unfolding processAt withProcess
 process-put g i p s lo hi = λ k.
     record {
       first = first₃ (g .words) i (p .first) (p .value) 0 hi lo (p .decision) (omega arith) k;
-      round = first₃ (g .bytes) i (p .round) (p .phase) 0 hi lo (p .proposer) (omega arith) k;
-      phase = second₃ (g .bytes) i (p .round) (p .phase) 0 hi lo (p .proposer) (omega arith) k;
-      proposer = third₃ (g .bytes) i (p .round) (p .phase) 0 hi lo (p .proposer) (omega arith) k;
+      round = first₄ (g .bytes) i (p .round) (p .phase) 0 hi lo (p .proposer) (p .recoveries) (omega arith) k;
+      phase = second₄ (g .bytes) i (p .round) (p .phase) 0 hi lo (p .proposer) (p .recoveries) (omega arith) k;
+      proposer = third₄ (g .bytes) i (p .round) (p .phase) 0 hi lo (p .proposer) (p .recoveries) (omega arith) k;
       value = second₃ (g .words) i (p .first) (p .value) 0 hi lo (p .decision) (omega arith) k;
       marked = first₃ (g .flags) i (p .marked) (p .decided) false hi lo (p .up) (omega arith) k;
       decided = second₃ (g .flags) i (p .marked) (p .decided) false hi lo (p .up) (omega arith) k;
       decision = third₃ (g .words) i (p .first) (p .value) 0 hi lo (p .decision) (omega arith) k;
+      recoveries = fourth₄ (g .bytes) i (p .round) (p .phase) 0 hi lo (p .proposer) (p .recoveries) (omega arith) k;
       up = third₃ (g .flags) i (p .marked) (p .decided) false hi lo (p .up) (omega arith) k;
       estimates = first₂ (g .halves) i (p .estimates) (p .suspicions) 0 hi lo (omega arith) k;
       suspicions = second₂ (g .halves) i (p .estimates) (p .suspicions) 0 hi lo (omega arith) k;
@@ -71,13 +93,14 @@ unfolding processAt withProcess
 process-kept g i j p lo hi lo' hi' ne = λ k.
     record {
       first = kept₃ (g .words) i (p .first) (p .value) 0 hi (j - 1) at₀ (p .decision) k;
-      round = kept₃ (g .bytes) i (p .round) (p .phase) 0 hi (j - 1) at₀ (p .proposer) k;
-      phase = kept₃ (g .bytes) i (p .round) (p .phase) 0 hi (16 + (j - 1)) at₁ (p .proposer) k;
-      proposer = kept₃ (g .bytes) i (p .round) (p .phase) 0 hi (32 + (j - 1)) at₂ (p .proposer) k;
+      round = kept₄ (g .bytes) i (p .round) (p .phase) 0 hi (j - 1) at₀ (p .proposer) (p .recoveries) k;
+      phase = kept₄ (g .bytes) i (p .round) (p .phase) 0 hi (16 + (j - 1)) at₁ (p .proposer) (p .recoveries) k;
+      proposer = kept₄ (g .bytes) i (p .round) (p .phase) 0 hi (32 + (j - 1)) at₂ (p .proposer) (p .recoveries) k;
       value = kept₃ (g .words) i (p .first) (p .value) 0 hi (16 + (j - 1)) at₁ (p .decision) k;
       marked = kept₃ (g .flags) i (p .marked) (p .decided) false hi (j - 1) at₀ (p .up) k;
       decided = kept₃ (g .flags) i (p .marked) (p .decided) false hi (16 + (j - 1)) at₁ (p .up) k;
       decision = kept₃ (g .words) i (p .first) (p .value) 0 hi (32 + (j - 1)) at₂ (p .decision) k;
+      recoveries = kept₄ (g .bytes) i (p .round) (p .phase) 0 hi (48 + (j - 1)) at₃ (p .proposer) (p .recoveries) k;
       up = kept₃ (g .flags) i (p .marked) (p .decided) false hi (32 + (j - 1)) at₂ (p .up) k;
       estimates = kept₂ (g .halves) i (p .estimates) (p .suspicions) 0 hi (j - 1) at₀ k;
       suspicions = kept₂ (g .halves) i (p .estimates) (p .suspicions) 0 hi (16 + (j - 1)) at₁ k;
@@ -91,6 +114,9 @@ process-kept g i j p lo hi lo' hi' ne = λ k.
 
     at₂ : (32 + (j - 1)) % 16 ≢ i - 1
     at₂ = omega arith
+
+    at₃ : (48 + (j - 1)) % 16 ≢ i - 1
+    at₃ = omega arith
 
 -- the size of the group and its columns stay
 pub with-size : (g : Group) (i : ℕ) (p : Process) → withProcess g i p .n ≡ g .n
@@ -119,13 +145,14 @@ unfolding processAt blankGroup blank
 blank-process n i hi = λ k.
     record {
       first = getD-replicate 48 (i - 1) 0 0 (omega arith) k;
-      round = getD-replicate 48 (i - 1) 0 0 (omega arith) k;
-      phase = getD-replicate 48 (16 + (i - 1)) 0 0 (omega arith) k;
-      proposer = getD-replicate 48 (32 + (i - 1)) 0 0 (omega arith) k;
+      round = getD-replicate 64 (i - 1) 0 0 (omega arith) k;
+      phase = getD-replicate 64 (16 + (i - 1)) 0 0 (omega arith) k;
+      proposer = getD-replicate 64 (32 + (i - 1)) 0 0 (omega arith) k;
       value = getD-replicate 48 (16 + (i - 1)) 0 0 (omega arith) k;
       marked = getD-replicate 48 (i - 1) false false (omega arith) k;
       decided = getD-replicate 48 (16 + (i - 1)) false false (omega arith) k;
       decision = getD-replicate 48 (32 + (i - 1)) 0 0 (omega arith) k;
+      recoveries = getD-replicate 64 (48 + (i - 1)) 0 0 (omega arith) k;
       up = getD-replicate 48 (32 + (i - 1)) false false (omega arith) k;
       estimates = getD-replicate 32 (i - 1) 0 0 (omega arith) k;
       suspicions = getD-replicate 32 (16 + (i - 1)) 0 0 (omega arith) k;

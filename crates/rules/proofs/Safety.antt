@@ -1,7 +1,9 @@
 -- The theorem about runs: specs/Safety.antt has its statements, Theorem the whole.
 pub mod Basics
 pub mod Cases
--- what is stored, the store, soundness, what was handed over, tallies
+-- fields and recoveries, what is stored, the store, soundness, what was handed over, tallies
+pub mod Fields
+pub mod Recoveries
 pub mod Stored
 pub mod Entries
 pub mod Sound

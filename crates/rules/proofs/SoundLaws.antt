@@ -27,7 +27,7 @@ use Rattle.rules.specs.Answers.{Outcome, refused}
 use Rattle.rules.specs.Events.{takes, enters, joinsEstimates, joinsSuspicions, decides, secondPhase, marks, paused, crashed, recovered, quiet, changed, jumpsIf, jumps, relaysIf, relays, decidesIf, decidesAt, goesToPhase2, goesToPhase2If, toPhase2, adoptsIf, adopts, opensIf, opens, entersNextIf, entersNextAt, onE, onS, onF, onDecision, onSuspect, onPause, onCrash, onRecover, cutIf}
 use Rattle.rules.specs.Steps.{takerOf, numbersOf, roundOf, delivers, isCut, entryIn, eventOf}
 use Rattle.rules.specs.Idle.{idle}
-use Rattle.rules.specs.Refusals.{row, allOf, every, short, whole, damaged, strange, late, down, unsent, misnamed, impossible, entersPast, refusal, miscounted, startRefusal}
+use Rattle.rules.specs.Refusals.{row, allOf, every, short, whole, damaged, strange, late, down, unsent, misnamed, impossible, recoversPast, entersPast, refusal, miscounted, startRefusal}
 use Rattle.rules.specs.Step.{idles, orIdle, unlessRefused, course, handOvers, sentBy, settled, stepped}
 use Rattle.rules.specs.Start.{fresh, startedTo, unlessRefusedStart, begun, started}
 use Rattle.rules.proofs.BoolLaws.{and-left, and-right, and-both, or-case}
@@ -362,13 +362,15 @@ pub record Passed (g : Group) (l : List ℕ) (s : Step) : Type 0 where
   pub sent : unsent l s ≡ false
   pub named : misnamed g l s ≡ false
   pub possible : impossible g s ≡ false
+  pub not-many : recoversPast g s ≡ false
   pub within-rounds : entersPast g l s ≡ false
 
 pub refusal-passed : (g : Group) (l : List ℕ) (s : Step) → refusal g l s ≡ 0 → Passed g l s
 unfolding refusal
 refusal-passed g l s e =
     let r₈ = row (entersPast g l s) 8 0 in
-    let r₇ = row (impossible g s) 7 r₈ in
+    let r₁₃ = row (recoversPast g s) 13 r₈ in
+    let r₇ = row (impossible g s) 7 r₁₃ in
     let r₂ = row (misnamed g l s) 2 r₇ in
     let r₆ = row (unsent l s) 6 r₂ in
     let r₅ = row (down g s) 5 r₆ in
@@ -381,7 +383,8 @@ refusal-passed g l s e =
     let f = row-zero (down g s) 4 r₆ (d .1) in
     let h = row-zero (unsent l s) 5 r₂ (f .1) in
     let i = row-zero (misnamed g l s) 1 r₇ (h .1) in
-    let j = row-zero (impossible g s) 6 r₈ (i .1) in
+    let j = row-zero (impossible g s) 6 r₁₃ (i .1) in
+    let k = row-zero (recoversPast g s) 12 r₈ (j .1) in
     record {
       long = a .0;
       sound = b .0;
@@ -391,7 +394,8 @@ refusal-passed g l s e =
       sent = h .0;
       named = i .0;
       possible = j .0;
-      within-rounds = row-zero (entersPast g l s) 7 0 (j .1) .0;
+      not-many = k .0;
+      within-rounds = row-zero (entersPast g l s) 7 0 (k .1) .0;
     }
 
 -- the first and the second number of a step that are of 1..n

@@ -1,15 +1,15 @@
 -- How the tests of a step pick its course. Assumes nothing.
 use mathlib.Core.Path.{_≡_}
 use mathlib.Core.Bool.{Bool, true, false}
-use Prim.Native.Nat.{ℕ}
+use Prim.Native.Nat.{ℕ, _+_}
 use lib.Dec.{ltb}
 use Rattle.rules.specs.declared.process.Process.{Process}
 use Rattle.rules.specs.declared.process.Next.{Next}
 use Rattle.rules.specs.declared.course.Course.the-variants.{Refuses, Takes}
-use Rattle.rules.specs.Limits.{lastRound}
+use Rattle.rules.specs.Limits.{lastRound, mostRecoveries}
 use Rattle.rules.specs.Events.{cutIf, onSuspect, onRecover}
 use Rattle.rules.specs.Step.{idles, orIdle}
-use Rattle.rules.specs.Parts.{orPast, unlessPast, orImpossible, orUp}
+use Rattle.rules.specs.Parts.{orPast, unlessPast, orImpossible, unlessMany, orUp}
 
 module _ (cut : Bool) (i : ℕ) (p : Process) (x : Next) where
   -- a delivery that is idle, and one that is not
@@ -45,11 +45,15 @@ module _ (cut : Bool) (i : ℕ) (p : Process) where
   possible-no e = rw e
 
 module _ (i : ℕ) (p : Process) where
-  -- a recovery of a process that is up, and of one that is down
+  -- a recovery of a process that is up, one that would be too many, and one that is taken
   pub up-yes : {b : Bool} → b ≡ true → Refuses 7 ≡ orUp b i p
   unfolding orUp
   up-yes e = rw e
 
-  pub up-no : {b : Bool} → b ≡ false → Takes i (onRecover p) ≡ orUp b i p
-  unfolding orUp
-  up-no e = rw e
+  pub up-many : {b : Bool} → b ≡ false → ltb mostRecoveries (p .recoveries + 1) ≡ true → Refuses 13 ≡ orUp b i p
+  unfolding orUp unlessMany
+  up-many e t = rw (e, t)
+
+  pub up-no : {b : Bool} → b ≡ false → ltb mostRecoveries (p .recoveries + 1) ≡ false → Takes i (onRecover p) ≡ orUp b i p
+  unfolding orUp unlessMany
+  up-no e t = rw (e, t)

@@ -1,4 +1,4 @@
--- Document 01, "Runs to hold it against": the runs marked (P) hold, "proved together as one table with a single statement". Assumes nothing.
+-- Document 01, "Runs to hold it against": the runs marked (P), and those for request 2026-03, hold, "proved together as one table with a single statement". Assumes nothing.
 -- antt computes every run of specs/Table.antt by the definitions, so the proof names all of them and is then one word.
 use mathlib.Core.Path.{_≡_, refl}
 use mathlib.Core.Bool.{true}
@@ -6,20 +6,20 @@ use lib.Count.{ones}
 use Rattle.rules.specs.Tally.{holds, joined, meets, within}
 use Rattle.rules.specs.Records.{processAt, withProcess, blankGroup}
 use Rattle.rules.specs.Store.{placeOf, entryFor, handOver, turned, cleared}
-use Rattle.rules.specs.Events.{takes, enters, joinsEstimates, joinsSuspicions, decides, secondPhase, marks, crashed, recovered, quiet}
+use Rattle.rules.specs.Events.{takes, enters, joinsEstimates, joinsSuspicions, decides, secondPhase, marks, paused, crashed, recovered, quiet}
 use Rattle.rules.specs.Events.{changed, jumpsIf, jumps, relaysIf, relays, decidesIf, decidesAt, goesToPhase2, goesToPhase2If, toPhase2}
 use Rattle.rules.specs.Events.{adoptsIf, adopts, opensIf, opens, entersNextIf, entersNextAt, onE, onS, onF, onDecision, onSuspect}
-use Rattle.rules.specs.Events.{onCrash, onRecover, cutIf}
+use Rattle.rules.specs.Events.{onPause, onCrash, onRecover, cutIf}
 use Rattle.rules.specs.Steps.{takerOf, numbersOf, roundOf, delivers, slotOf, isCut, entryIn, eventOf}
 use Rattle.rules.specs.Idle.{pastFor, at, idleE, idleS, idleF, idle}
 use Rattle.rules.specs.Refusals.{row, allOf, every, short, miscounted, whole, damaged, strange, late, isRecover, down, unsent}
-use Rattle.rules.specs.Refusals.{misnamed, maySuspect, impossible, entersPast, startRefusal, refusal}
+use Rattle.rules.specs.Refusals.{misnamed, maySuspect, impossible, recoversPast, entersPast, startRefusal, refusal}
 use Rattle.rules.specs.Start.{fresh, startedTo, opened, begun, unlessRefusedStart, started}
 use Rattle.rules.specs.Step.{idles, orIdle, unlessRefused, course, handOvers, sentBy, decidesNow, settled, stepped}
 use Rattle.rules.specs.Run.{startState}
 use Rattle.rules.specs.Table.{sameSaid, looks, looksIn, allLook, allStand, goesOn, holdsOne, holdsAll, runAbove, oneDecides}
 use Rattle.rules.specs.Table.{oneEntersRound1, repeatIsIdle, suspectTwice, crashTwice, recoverWhileUp, refusedOfSixteen, seventeenth}
-use Rattle.rules.specs.Table.{round64, round63, fiveProcesses, relayedAgain, table}
+use Rattle.rules.specs.Table.{round64, round63, fiveProcesses, relayedAgain, comesBack, comesBackFromACut, table}
 use Rattle.rules.specs.Limits.{among}
 
 -- the single statement
@@ -28,18 +28,18 @@ unfolding ones
     holds joined meets within
     processAt withProcess blankGroup
     placeOf entryFor handOver turned cleared
-    takes enters joinsEstimates joinsSuspicions decides secondPhase marks crashed recovered quiet
+    takes enters joinsEstimates joinsSuspicions decides secondPhase marks paused crashed recovered quiet
     changed jumpsIf jumps relaysIf relays decidesIf decidesAt goesToPhase2 goesToPhase2If toPhase2
     adoptsIf adopts opensIf opens entersNextIf entersNextAt onE onS onF onDecision onSuspect
-    onCrash onRecover cutIf
+    onPause onCrash onRecover cutIf
     takerOf numbersOf roundOf delivers slotOf isCut entryIn eventOf
     pastFor at idleE idleS idleF idle
     row among allOf every short miscounted whole damaged strange late isRecover down unsent
-    misnamed maySuspect impossible entersPast startRefusal refusal
+    misnamed maySuspect impossible recoversPast entersPast startRefusal refusal
     fresh startedTo opened begun unlessRefusedStart started
     idles orIdle unlessRefused course handOvers sentBy decidesNow settled stepped
     startState
     sameSaid looks looksIn allLook allStand goesOn holdsOne holdsAll runAbove oneDecides
     oneEntersRound1 repeatIsIdle suspectTwice crashTwice recoverWhileUp refusedOfSixteen seventeenth
-    round64 round63 fiveProcesses relayedAgain table
+    round64 round63 fiveProcesses relayedAgain comesBack comesBackFromACut table
 table-holds = refl

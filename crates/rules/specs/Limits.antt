@@ -15,6 +15,10 @@ among n m = leb 1 m && leb m n
 abbrev pub lastRound : ℕ
 lastRound = 63
 
+-- Request 2026-03: the most recoveries that a process can have, "where a recover would exceed 255"
+abbrev pub mostRecoveries : ℕ
+mostRecoveries = 255
+
 -- "Majority is floor(n/2) + 1"
 abbrev pub majority : ℕ → ℕ
 majority n = n / 2 + 1

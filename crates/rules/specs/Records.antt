@@ -1,6 +1,7 @@
 -- Document 01, "Records and the message store": the record of a process, and a group of them. Assumes nothing.
 -- "A process has: its first value; round; phase (1 or 2); estimate (a proposer and a value); suspicion mark; decision or none; up or down; and two tallies,
 -- estimates heard and suspicions heard." This is the struct `Process`: `decision` is one where `decided` is true, and none otherwise.
+-- Request 2026-03: "Each process record gains its number of recoveries, kept through crashes", and "It is part of the stored record".
 use mathlib.Core.Path.{_≡_}
 use mathlib.Core.Bool.{Bool, true, false}
 use mathlib.Core.List.{List}
@@ -20,6 +21,7 @@ pub record Stored : Type 0 where
   pub marked : Bool
   pub decided : Bool
   pub decision : ℕ
+  pub recoveries : ℕ
 
 unfoldable pub stored : Process → Stored
 stored p =
@@ -32,18 +34,22 @@ stored p =
       marked = p .marked;
       decided = p .decided;
       decision = p .decision;
+      recoveries = p .recoveries;
     }
 
 -- a group of size n whose records are kept in four lists by width: numbers of 32 bits, of 16, of 8, and bools. Process i stands at i - 1 of each column of 16
 abbrev pub groupOf : ℕ → List ℕ → List ℕ → List ℕ → List Bool → Group
 groupOf n words halves bytes flags = record { n = n; words = words; halves = halves; bytes = bytes; flags = flags }
 
--- where the second and the third column of a list begin
+-- where the second, the third and the fourth column of a list begin
 abbrev pub second : ℕ
 second = greatestSize
 
 abbrev pub third : ℕ
 third = 2 * greatestSize
+
+abbrev pub fourth : ℕ
+fourth = 3 * greatestSize
 
 -- process i of g
 unfoldable pub processAt : Group → ℕ → Process
@@ -57,17 +63,21 @@ processAt g i =
       marked = getD (g .flags) (i - 1) false;
       decided = getD (g .flags) (second + (i - 1)) false;
       decision = getD (g .words) (third + (i - 1)) 0;
+      recoveries = getD (g .bytes) (fourth + (i - 1)) 0;
       up = getD (g .flags) (third + (i - 1)) false;
       estimates = getD (g .halves) (i - 1) 0;
       suspicions = getD (g .halves) (second + (i - 1)) 0;
     }
 
--- a list with one entry of each of its two, or three, columns of 16 replaced at i
+-- a list with one entry of each of its two, three or four columns of 16 replaced at i
 abbrev pub put₂ : {A : Type 0} → List A → ℕ → A → A → List A
 put₂ l i a b = set (set l (i - 1) a) (second + (i - 1)) b
 
 abbrev pub put₃ : {A : Type 0} → List A → ℕ → A → A → A → List A
 put₃ l i a b c = set (put₂ l i a b) (third + (i - 1)) c
+
+abbrev pub put₄ : {A : Type 0} → List A → ℕ → A → A → A → A → List A
+put₄ l i a b c d = set (put₃ l i a b c) (fourth + (i - 1)) d
 
 -- g with p as process i
 unfoldable pub withProcess : Group → ℕ → Process → Group
@@ -75,14 +85,14 @@ withProcess g i p =
     groupOf (g .n)
     (put₃ (g .words) i (p .first) (p .value) (p .decision))
     (put₂ (g .halves) i (p .estimates) (p .suspicions))
-    (put₃ (g .bytes) i (p .round) (p .phase) (p .proposer))
+    (put₄ (g .bytes) i (p .round) (p .phase) (p .proposer) (p .recoveries))
     (put₃ (g .flags) i (p .marked) (p .decided) (p .up))
 
 -- every list has its whole columns: so has every group that the code holds
 pub record Sized (g : Group) : Type 0 where
   pub words : length (g .words) ≡ 3 * greatestSize
   pub halves : length (g .halves) ≡ 2 * greatestSize
-  pub bytes : length (g .bytes) ≡ 3 * greatestSize
+  pub bytes : length (g .bytes) ≡ 4 * greatestSize
   pub flags : length (g .flags) ≡ 3 * greatestSize
 
 -- "Records above n, and all records of a group of size 0, have every number 0, no mark, no decision, empty tallies and are down; no step changes those above n."
@@ -97,6 +107,7 @@ blank =
       marked = false;
       decided = false;
       decision = 0;
+      recoveries = 0;
       up = false;
       estimates = 0;
       suspicions = 0;
@@ -112,4 +123,4 @@ recordOf g i = recordIf (among greatestSize i) g i
 
 -- a group of size n with every record blank
 unfoldable pub blankGroup : ℕ → Group
-blankGroup n = groupOf n (replicate (3 * greatestSize) 0) (replicate (2 * greatestSize) 0) (replicate (3 * greatestSize) 0) (replicate (3 * greatestSize) false)
+blankGroup n = groupOf n (replicate (3 * greatestSize) 0) (replicate (2 * greatestSize) 0) (replicate (4 * greatestSize) 0) (replicate (3 * greatestSize) false)

@@ -1,14 +1,14 @@
--- Document 01, "Refusals": the table's rows for start and step, in their order. Assumes nothing.
+-- Document 01, "Refusals": the table's rows for start and step, in their order, with the row of request 2026-03. Assumes nothing.
 use mathlib.Core.Bool.{Bool, true, false, _&&_, _||_, not}
 use mathlib.Core.List.{List, [], _∷_}
-use Prim.Native.Nat.{ℕ, zero, suc}
+use Prim.Native.Nat.{ℕ, zero, suc, _+_}
 use lib.Dec.{eqb, leb, ltb}
 use lib.ListN.{length}
 use Rattle.rules.specs.declared.group.Group.{Group}
 use Rattle.rules.specs.declared.process.Process.{Process}
 use Rattle.rules.specs.declared.step.Step.{Step}
 use Rattle.rules.specs.declared.step.Step.the-variants.{DeliverE, DeliverS, DeliverF, DeliverDecision, Suspect, Pause, Crash, Recover}
-use Rattle.rules.specs.Limits.{greatestSize, lastRound, storeLength, among}
+use Rattle.rules.specs.Limits.{greatestSize, lastRound, mostRecoveries, storeLength, among}
 use Rattle.rules.specs.Tally.{within}
 use Rattle.rules.specs.Records.{processAt}
 use Rattle.rules.specs.Store.{proposerOf}
@@ -93,6 +93,17 @@ impossible g (Pause i) = false
 impossible g (Crash i) = false
 impossible g (Recover i) = processAt g i .up
 
+-- 13: "where a recover would exceed 255"
+unfoldable pub recoversPast : Group → Step → Bool
+recoversPast g (DeliverE i j r c) = false
+recoversPast g (DeliverS i j r c) = false
+recoversPast g (DeliverF i j r c) = false
+recoversPast g (DeliverDecision i j c) = false
+recoversPast g (Suspect i c) = false
+recoversPast g (Pause i) = false
+recoversPast g (Crash i) = false
+recoversPast g (Recover i) = ltb mostRecoveries (processAt g i .recoveries + 1)
+
 -- 8: "the step would enter round 64". Only an F that is not idle enters a next round
 unfoldable pub entersPast : Group → List ℕ → Step → Bool
 entersPast g l (DeliverE i j r c) = false
@@ -109,7 +120,7 @@ entersPast g l (Recover i) = false
 unfoldable pub startRefusal : List ℕ → List ℕ → ℕ
 startRefusal vs l = row (short l) 11 (row (miscounted vs) 1 0)
 
--- "For steps: as listed from 11, without 1."
+-- "For steps: as listed from 11, without 1." And "13, after 7"
 unfoldable pub refusal : Group → List ℕ → Step → ℕ
 refusal g l s =
     row (short l) 11
@@ -120,4 +131,5 @@ refusal g l s =
     (row (unsent l s) 6
     (row (misnamed g l s) 2
     (row (impossible g s) 7
-    (row (entersPast g l s) 8 0))))))))
+    (row (recoversPast g s) 13
+    (row (entersPast g l s) 8 0)))))))))

@@ -1,11 +1,11 @@
 -- What holds of every run, stated over the definitions that the contracts of start and step cite. The proofs are in proofs/Safety. Assumes nothing.
 use mathlib.Core.Path.{_≡_}
-use mathlib.Core.Bool.{Bool, true, false, not}
+use mathlib.Core.Bool.{Bool, true, false, _&&_, not}
 use mathlib.Core.List.{List, [], _∷_, _++_}
 use mathlib.Core.Logic.{_↔_, _⊎_, _≢_}
 use Prim.Native.Nat.{ℕ, zero, suc, _+_, _-_, _^_, _≤_, _<_}
 use lib.Count.{ones}
-use lib.Dec.{eqb}
+use lib.Dec.{eqb, ltb}
 use lib.ListN.{length, getD}
 use Rattle.rules.specs.declared.group.Group.{Group}
 use Rattle.rules.specs.declared.process.Process.{Process}
@@ -13,13 +13,14 @@ use Rattle.rules.specs.declared.process.Message.{Message}
 use Rattle.rules.specs.declared.process.Message.the-variants.{Nothing, E, S, F, Decision}
 use Rattle.rules.specs.declared.step.Step.{Step}
 use Rattle.rules.specs.declared.step.Step.the-variants.{DeliverE, DeliverS, DeliverF, DeliverDecision, Suspect, Pause, Crash, Recover}
-use Rattle.rules.specs.Limits.{greatestSize, lastRound, storeLength, majority}
-use Rattle.rules.specs.Tally.{holds, count}
+use Rattle.rules.specs.Limits.{greatestSize, lastRound, mostRecoveries, storeLength, majority}
+use Rattle.rules.specs.Tally.{holds, count, bitOf}
 use Rattle.rules.specs.Records.{Stored, stored, processAt, blank}
 use Rattle.rules.specs.Store.{slot, kindE, kindS, kindF, proposerOf, sentIn}
 use Rattle.rules.specs.Answers.{Said}
 use Rattle.rules.specs.Steps.{takerOf, delivers}
-use Rattle.rules.specs.Refusals.{damaged, strange, late, down, refusal}
+use Rattle.rules.specs.Refusals.{damaged, strange, late, isRecover, down, refusal}
+use Rattle.rules.specs.Step.{stepped}
 use Rattle.rules.specs.Run.{State, startState, next, after, answers, Handed, handedFrom}
 
 -- ---- runs
@@ -94,14 +95,33 @@ cut (Pause i) = Pause i
 cut (Crash i) = Crash i
 cut (Recover i) = Recover i
 
--- recovered, it has the stored record that it had when it went down: the state after ss is the one right after it did
+-- a stored record with "the one that recover itself adds"; where that would be too many, the recover is refused and the record as it was
+unfoldable pub backUnless : Bool → Stored → Stored
+backUnless true t = t
+backUnless false t =
+    record {
+      first = t .first;
+      round = t .round;
+      phase = t .phase;
+      proposer = t .proposer;
+      value = t .value;
+      marked = t .marked;
+      decided = t .decided;
+      decision = t .decision;
+      recoveries = t .recoveries + 1;
+    }
+
+unfoldable pub back : Stored → Stored
+back t = backUnless (ltb mostRecoveries (t .recoveries + 1)) t
+
+-- recovered, it has the stored record that it had when it went down, "apart from the one that recover itself adds": the state after ss is the one right after it did
 abbrev pub Recovery : Type 0
 Recovery = EveryRun λ vs l ss. (ts : List Step) (i : ℕ) → Of vs i → DownThrough (at vs l ss) ts i
-    → stored (processOf (next (after (at vs l ss) ts) (Recover i)) i) ≡ stored (processOf (at vs l ss) i)
+    → stored (processOf (next (after (at vs l ss) ts) (Recover i)) i) ≡ back (stored (processOf (at vs l ss) i))
 
--- no step changes the stored record of a process that is down
+-- no step but its recover changes the stored record of a process that is down
 abbrev pub DownKeeps : Type 0
-DownKeeps = EveryRun λ vs l ss. (s : Step) (i : ℕ) → Of vs i → processOf (at vs l ss) i .up ≡ false
+DownKeeps = EveryRun λ vs l ss. (s : Step) (i : ℕ) → Of vs i → processOf (at vs l ss) i .up ≡ false → s ≢ Recover i
     → stored (processOf (next (at vs l ss) s) i) ≡ stored (processOf (at vs l ss) i)
 
 -- a pause and a crash keep it
@@ -220,10 +240,31 @@ NextRoundWithMajority = EveryRun λ vs l ss. (i j r : ℕ) (c : Bool) → Of vs 
     → processOf (at vs l ss) i .round ≤ r → processOf (next (at vs l ss) (DeliverF i j r c)) i .round ≡ r + 1
     → majority (length vs) ≤ count (hasSent (at vs l ss) r kindF) (length vs)
 
+-- ---- 9: recoveries
+
+-- how many of the steps are applied recovers of process i
+unfoldable pub recoversOf : ℕ → State → List Step → ℕ
+recoversOf i a [] = 0
+recoversOf i a (s ∷ ss) =
+    bitOf (isRecover s && (eqb (takerOf s) i && stepped (a .group) (a .store) s .says .applied)) + recoversOf i (next a s) ss
+
+-- the number of recoveries is just that: "0 at start and one more at each applied recover"
+abbrev pub RecoveriesCounted : Type 0
+RecoveriesCounted = EveryRun λ vs l ss. (i : ℕ) → Of vs i → processOf (at vs l ss) i .recoveries ≡ recoversOf i (startState vs l) ss
+
+-- and is never above 255
+abbrev pub RecoveriesFit : Type 0
+RecoveriesFit = EveryRun λ vs l ss. (i : ℕ) → Of vs i → processOf (at vs l ss) i .recoveries ≤ mostRecoveries
+
+-- refusal 13 comes exactly when a process that is down is to recover and 255 recovers of it were applied
+abbrev pub RefusalThirteen : Type 0
+RefusalThirteen = EveryRun λ vs l ss. (i : ℕ) → Of vs i → processOf (at vs l ss) i .up ≡ false
+    → (refusal (at vs l ss .group) (at vs l ss .store) (Recover i) ≡ 13) ↔ (recoversOf i (startState vs l) ss ≡ mostRecoveries)
+
 -- ---- demand 3, in its words
 
 -- Start 1 to 16 processes with any values, let nothing but steps write the store, apply any finite list of steps: no two processes ever hold different decisions, each decided
--- value is some process's first value, decisions stay, and a recovered process has the stored record that it last stored.
+-- value is some process's first value, decisions stay, and a recovered process has the stored record that it last stored, with one recovery more.
 pub record Safety : Type 0 where
   pub agreement : Agreement
   pub validity : Validity
@@ -233,3 +274,4 @@ pub record Safety : Type 0 where
   pub down : DownKeeps
   pub going-down : GoingDownKeeps
   pub cuts : CutStores
+  pub recoveries : RecoveriesCounted

@@ -15,7 +15,7 @@ use Rattle.rules.specs.Store.{cleared, handOver}
 use Rattle.rules.specs.Answers.{Outcome, outcome, refused, said, saysApplied}
 use Rattle.rules.specs.Refusals.{startRefusal}
 
--- "process i has first value v_i, round 0, phase 1, estimate (i, v_i), no mark, no decision, up, empty tallies"
+-- "process i has first value v_i, round 0, phase 1, estimate (i, v_i), no mark, no decision, up, empty tallies", and no recovery
 unfoldable pub fresh : ℕ → ℕ → Process
 fresh i v =
     record {
@@ -27,6 +27,7 @@ fresh i v =
       marked = false;
       decided = false;
       decision = 0;
+      recoveries = 0;
       up = true;
       estimates = 0;
       suspicions = 0;

@@ -1,4 +1,4 @@
--- Document 01, "Runs to hold it against": the runs marked (P), as one table. Its statement is `holdsAll table ≡ true`, in proofs/Table.antt. Assumes nothing.
+-- Document 01, "Runs to hold it against": the runs marked (P), as one table, and two runs for request 2026-03. Its statement is `holdsAll table ≡ true`, in proofs/Table.antt. Assumes nothing.
 -- "Each run begins at a fresh start." Where the document names no values, they are 7, 9, 5 as in its example, and 0 to 15 for n = 16.
 use mathlib.Core.Bool.{Bool, true, false, _&&_, Bool·beq}
 use mathlib.Core.List.{List, [], _∷_}
@@ -8,7 +8,7 @@ use lib.ListN.{getD, replicate}
 use Rattle.rules.specs.declared.group.Group.{Group}
 use Rattle.rules.specs.declared.process.Process.{Process}
 use Rattle.rules.specs.declared.step.Step.{Step}
-use Rattle.rules.specs.declared.step.Step.the-variants.{DeliverE, DeliverS, DeliverF, DeliverDecision, Suspect, Crash, Recover}
+use Rattle.rules.specs.declared.step.Step.the-variants.{DeliverE, DeliverS, DeliverF, DeliverDecision, Suspect, Pause, Crash, Recover}
 use Rattle.rules.specs.Limits.{storeLength}
 use Rattle.rules.specs.Records.{processAt}
 use Rattle.rules.specs.Answers.{Said, saysApplied, saysIdle, saysRefused}
@@ -27,19 +27,29 @@ pub record Seen : Type 0 where
   pub value : ℕ
   pub decided : Bool
   pub decision : ℕ
+  pub recoveries : ℕ
 
--- process i in round r and phase f, with the estimate (q, v): up or down with no decision, or up with the decision d
+-- process i in round r and phase f, with the estimate (q, v): up or down with no decision, or up with the decision d, and no recovery
 abbrev pub upNow : ℕ → ℕ → ℕ → ℕ → ℕ → Seen
 upNow i r f q v =
-    record { process = i; up = true; round = r; phase = f; proposer = q; value = v; decided = false; decision = 0 }
+    record { process = i; up = true; round = r; phase = f; proposer = q; value = v; decided = false; decision = 0; recoveries = 0 }
 
 abbrev pub downNow : ℕ → ℕ → ℕ → ℕ → ℕ → Seen
 downNow i r f q v =
-    record { process = i; up = false; round = r; phase = f; proposer = q; value = v; decided = false; decision = 0 }
+    record { process = i; up = false; round = r; phase = f; proposer = q; value = v; decided = false; decision = 0; recoveries = 0 }
 
 abbrev pub decidedNow : ℕ → ℕ → ℕ → ℕ → ℕ → ℕ → Seen
 decidedNow i r f q v d =
-    record { process = i; up = true; round = r; phase = f; proposer = q; value = v; decided = true; decision = d }
+    record { process = i; up = true; round = r; phase = f; proposer = q; value = v; decided = true; decision = d; recoveries = 0 }
+
+-- with no decision, and k recoveries
+abbrev pub backNow : ℕ → ℕ → ℕ → ℕ → ℕ → ℕ → Seen
+backNow i r f q v k =
+    record { process = i; up = true; round = r; phase = f; proposer = q; value = v; decided = false; decision = 0; recoveries = k }
+
+abbrev pub downAgain : ℕ → ℕ → ℕ → ℕ → ℕ → ℕ → Seen
+downAgain i r f q v k =
+    record { process = i; up = false; round = r; phase = f; proposer = q; value = v; decided = false; decision = 0; recoveries = k }
 
 -- a step, what it must say, and what it must leave a process: the one that takes it, or process 1 where there is none
 pub record Line : Type 0 where
@@ -82,7 +92,7 @@ looks p x =
     && (eqb (p .phase) (x .phase)
     && (eqb (p .proposer) (x .proposer)
     && (eqb (p .value) (x .value)
-    && (Bool·beq (p .decided) (x .decided) && eqb (p .decision) (x .decision))))))
+    && (Bool·beq (p .decided) (x .decided) && (eqb (p .decision) (x .decision) && eqb (p .recoveries) (x .recoveries)))))))
 
 unfoldable pub looksIn : Group → Seen → Bool
 looksIn g x = looks (processAt g (x .process)) x
@@ -263,11 +273,40 @@ relayedAgain =
       lines =
           line (DeliverE 2 1 0 false) (saysApplied 1 false) (upNow 2 0 1 1 7)
           ∷ line (Crash 2) (saysApplied 0 false) (downNow 2 0 1 1 7)
-          ∷ line (Recover 2) (saysApplied 0 false) (upNow 2 0 1 1 7)
-          ∷ line (DeliverE 2 1 0 false) (saysApplied 0 false) (upNow 2 0 1 1 7)
+          ∷ line (Recover 2) (saysApplied 0 false) (backNow 2 0 1 1 7 1)
+          ∷ line (DeliverE 2 1 0 false) (saysApplied 0 false) (backNow 2 0 1 1 7 1)
           ∷ [];
       processes = [];
       entries = entryAt 3 4_294_967_303 ∷ [];
+    }
+
+-- Request 2026-03, "one more at each applied recover": after a pause and after a crash; a recover of the process that is up counts nothing
+unfoldable pub comesBack : Run
+comesBack =
+    record {
+      values = 7 ∷ 9 ∷ 5 ∷ [];
+      lines =
+          line (Pause 2) (saysApplied 0 false) (downNow 2 0 1 2 9)
+          ∷ line (Recover 2) (saysApplied 0 false) (backNow 2 0 1 2 9 1)
+          ∷ line (Recover 2) (saysRefused 7) (backNow 2 0 1 2 9 1)
+          ∷ line (Crash 2) (saysApplied 0 false) (downAgain 2 0 1 2 9 1)
+          ∷ line (Recover 2) (saysApplied 0 false) (backNow 2 0 1 2 9 2)
+          ∷ [];
+      processes = upNow 1 0 1 1 7 ∷ upNow 3 0 1 3 5 ∷ [];
+      entries = [];
+    }
+
+-- and after a cut, which stores the estimate (1, 7) and hands nothing over: no E of process 2 stands at 3
+unfoldable pub comesBackFromACut : Run
+comesBackFromACut =
+    record {
+      values = 7 ∷ 9 ∷ 5 ∷ [];
+      lines =
+          line (DeliverE 2 1 0 true) (saysApplied 0 false) (downNow 2 0 1 1 7)
+          ∷ line (Recover 2) (saysApplied 0 false) (backNow 2 0 1 1 7 1)
+          ∷ [];
+      processes = [];
+      entries = entryAt 3 0 ∷ [];
     }
 
 -- "(P) marks those proved together as one table with a single statement."
@@ -285,4 +324,6 @@ table =
     ∷ round63
     ∷ fiveProcesses
     ∷ relayedAgain
+    ∷ comesBack
+    ∷ comesBackFromACut
     ∷ []

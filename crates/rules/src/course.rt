@@ -256,12 +256,15 @@ impl Process {
         Course::Takes(i, next.cut_if(cut))
     }
 
-    // A recovery of a process that is up is refused.
+    // A recovery of a process that is up is refused, and so is one that would be too many.
     pub(crate) fn course_recover(self, i: u8) -> Course
         ensures { λ r. ⌜ r ≡ parts.orUp (self .up) i self ⌝ }
     {
         if self.up {
             return Course::Refuses(7);
+        }
+        if Process::MOST_RECOVERIES <= self.recoveries {
+            return Course::Refuses(13);
         }
         Course::Takes(i, self.on_recover())
     }

@@ -23,12 +23,12 @@ pub type Words = [u32; 3 * Group::GREATEST];
 
 pub type Halves = [u16; 2 * Group::GREATEST];
 
-pub type Bytes = [u8; 3 * Group::GREATEST];
+pub type Bytes = [u8; 4 * Group::GREATEST];
 
 pub type Flags = [bool; 3 * Group::GREATEST];
 
 // n processes; the record of process i stands at i - 1 of each column of 16. In `words` the columns are first values, estimates' values and decisions;
-// in `halves` estimates heard and suspicions heard; in `bytes` rounds, phases and estimates' proposers; in `flags` marks, whether decided, and whether up.
+// in `halves` estimates heard and suspicions heard; in `bytes` rounds, phases, estimates' proposers and numbers of recoveries; in `flags` marks, whether decided, and whether up.
 pub struct Group {
     pub n: u8,
     pub words: Words,
@@ -58,6 +58,7 @@ pub(crate) fn take_out(
         marked: flags[at],
         decided: flags[Group::SECOND + at],
         decision: words[Group::THIRD + at],
+        recoveries: bytes[Group::FOURTH + at],
         up: flags[Group::THIRD + at],
         estimates: halves[at],
         suspicions: halves[Group::SECOND + at],
@@ -85,6 +86,7 @@ pub(crate) fn put_back(
     bytes[at] = p.round;
     bytes[Group::SECOND + at] = p.phase;
     bytes[Group::THIRD + at] = p.proposer;
+    bytes[Group::FOURTH + at] = p.recoveries;
     flags[at] = p.marked;
     flags[Group::SECOND + at] = p.decided;
     flags[Group::THIRD + at] = p.up;
@@ -163,10 +165,12 @@ impl Group {
     // The number of the last process that a group can have.
     const LAST_NUMBER: u8 = Group::GREATEST as u8;
 
-    // Where the second and the third column of an array begin.
+    // Where the second, the third and the fourth column of an array begin.
     pub(crate) const SECOND: usize = Group::GREATEST;
 
     pub(crate) const THIRD: usize = 2 * Group::GREATEST;
+
+    pub(crate) const FOURTH: usize = 3 * Group::GREATEST;
 
     // The constant is the definitions' limit.
     pub(crate) fn greatest() -> usize
@@ -183,7 +187,7 @@ impl Group {
             n: 0,
             words: [0; 3 * Group::GREATEST],
             halves: [0; 2 * Group::GREATEST],
-            bytes: [0; 3 * Group::GREATEST],
+            bytes: [0; 4 * Group::GREATEST],
             flags: [false; 3 * Group::GREATEST],
         }
     }
@@ -227,7 +231,7 @@ impl Group {
         }
         let mut words = [0u32; 3 * Group::GREATEST];
         let mut halves = [0u16; 2 * Group::GREATEST];
-        let mut bytes = [0u8; 3 * Group::GREATEST];
+        let mut bytes = [0u8; 4 * Group::GREATEST];
         let mut flags = [false; 3 * Group::GREATEST];
         fill(values, &mut words, &mut halves, &mut bytes, &mut flags);
         begin(values[0], store);

@@ -1,7 +1,7 @@
 // The record of one process, and what it does with each kind of event.
 // A method takes the record by value and gives back the next one, with the messages that it hands over. Knows no group and no store.
 ghost use mathlib.Core.Path.{_≡_};
-ghost use Prim.Native.Nat.{_≤_};
+ghost use Prim.Native.Nat.{_+_, _≤_};
 ghost use Rattle.rules.specs.Limits as limits;
 ghost use Rattle.rules.specs.Records as records;
 ghost use Rattle.rules.specs.Events as events;
@@ -30,6 +30,7 @@ pub struct Process {
     pub round: u8,
     pub phase: u8,
     pub proposer: u8,
+    pub recoveries: u8,
     pub marked: bool,
     pub decided: bool,
     pub up: bool,
@@ -61,6 +62,16 @@ impl Process {
         Process::LAST_ROUND
     }
 
+    // The most recoveries that a process can have.
+    pub const MOST_RECOVERIES: u8 = 255;
+
+    // The constant is the definitions' limit.
+    pub(crate) fn most_recoveries() -> u8
+        ensures { λ r. ⌜ r ≡ limits.mostRecoveries ⌝ }
+    {
+        Process::MOST_RECOVERIES
+    }
+
     // The record of process i at a start.
     pub(crate) fn fresh(i: u8, value: u32) -> Process
         ensures { λ r. ⌜ r ≡ starts.fresh i value ⌝ }
@@ -74,6 +85,7 @@ impl Process {
             marked: false,
             decided: false,
             decision: 0,
+            recoveries: 0,
             up: true,
             estimates: 0,
             suspicions: 0,
@@ -93,6 +105,7 @@ impl Process {
             marked: false,
             decided: false,
             decision: 0,
+            recoveries: 0,
             up: false,
             estimates: 0,
             suspicions: 0,
@@ -290,12 +303,14 @@ impl Process {
         crashed.quiet()
     }
 
-    // Up, nothing else.
+    // Up, and one recovery more.
     pub(crate) fn on_recover(self) -> Next
+        requires { ⌜ self .recoveries + 1 ≤ limits.mostRecoveries ⌝ }
         ensures { λ r. ⌜ r ≡ events.onRecover self ⌝ }
     {
         let mut recovered = self;
         recovered.up = true;
+        recovered.recoveries = self.recoveries + 1;
         recovered.quiet()
     }
 

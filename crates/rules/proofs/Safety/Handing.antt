@@ -22,7 +22,7 @@ use Rattle.rules.specs.Limits.{greatestSize, lastRound, storeLength, amo
 use Rattle.rules.specs.Store.{kindE, kindS, kindF, placeOf, messageRound, handOver, cleared}
 use Rattle.rules.specs.Start.{firstMessage, opened, begun}
 use Rattle.rules.specs.Steps.{numbersOf, roundOf, delivers, slotOf, entryIn}
-use Rattle.rules.specs.Refusals.{row, every, short, damaged, strange, late, down, unsent, misnamed, impossible, entersPast, refusal}
+use Rattle.rules.specs.Refusals.{row, every, short, damaged, strange, late, down, unsent, misnamed, impossible, recoversPast, entersPast, refusal}
 use Rattle.rules.specs.Step.{course, handOvers, settled, stepped}
 use Rattle.rules.specs.Run.{State, startState, next, after, Handed, handed, one, handedByCourse, handedBy, handedIn, handedFrom}
 use Rattle.rules.specs.Safety.{Begins, at, Delivers, Among, RefusalSix}
@@ -244,17 +244,18 @@ tells vs l ss b =
 -- ---- refusal 6
 
 -- the rows from 6 on give 6 where the row's own test holds, and only there
-row-six : (u a b c : Bool) → (row u 6 (row a 2 (row b 7 (row c 8 0))) ≡ 6) ↔ (u ≡ true)
+row-six : (u a b m c : Bool) → (row u 6 (row a 2 (row b 7 (row m 13 (row c 8 0)))) ≡ 6) ↔ (u ≡ true)
 unfolding row
-row-six true a b c = (λ e. refl, λ e. refl)
-row-six false true b c = (λ e. absurd (omega arith), λ e. cc)
-row-six false false true c = (λ e. absurd (omega arith), λ e. cc)
-row-six false false false true = (λ e. absurd (omega arith), λ e. cc)
-row-six false false false false = (λ e. absurd (omega arith), λ e. cc)
+row-six true a b m c = (λ e. refl, λ e. refl)
+row-six false true b m c = (λ e. absurd (omega arith), λ e. cc)
+row-six false false true m c = (λ e. absurd (omega arith), λ e. cc)
+row-six false false false true c = (λ e. absurd (omega arith), λ e. cc)
+row-six false false false false true = (λ e. absurd (omega arith), λ e. cc)
+row-six false false false false false = (λ e. absurd (omega arith), λ e. cc)
 
 -- of a delivery that none of 11 to 5 stops, these rows are all that is left
 left-rows : (g : Group) (l : List ℕ) (s : Step) → storeLength ≤ length l → damaged g ≡ false → strange g s ≡ false → late s ≡ false → down g s ≡ false
-    → refusal g l s ≡ row (unsent l s) 6 (row (misnamed g l s) 2 (row (impossible g s) 7 (row (entersPast g l s) 8 0)))
+    → refusal g l s ≡ row (unsent l s) 6 (row (misnamed g l s) 2 (row (impossible g s) 7 (row (recoversPast g s) 13 (row (entersPast g l s) 8 0))))
 unfolding refusal row short
 left-rows g l s long sound numbers round up = rw (le-ltb (length l) storeLength long, sound, numbers, round, up)
 
@@ -273,7 +274,7 @@ refusal-six vs l ss b s h =
     let k = basic vs l ss b in
     let told = tells vs l ss b s (addressed (a .group) s (sound-facts (a .group) (k .sound) .high) (h .delivery) (h .numbers) (h .round)) in
     let rows = left-rows (a .group) (a .store) s (k .long) (k .sound) (h .numbers) (h .round) (h .up) in
-    let six = row-six (unsent (a .store) s) (misnamed (a .group) (a .store) s) (impossible (a .group) s) (entersPast (a .group) (a .store) s) in
+    let six = row-six (unsent (a .store) s) (misnamed (a .group) (a .store) s) (impossible (a .group) s) (recoversPast (a .group) s) (entersPast (a .group) (a .store) s) in
     let empty = unsent-zero (a .store) s (h .delivery) in (
       λ e am. told .1 am (empty .0 (six .0 (sym rows ∙ e))),
       λ none. rows ∙ six .1 (empty .1 (go none told (ℕ-discrete (getD (a .store) (slotOf s) 0) 0))),

@@ -25,7 +25,7 @@ use Rattle.rules.specs.Store.{entryOf, proposerOf, valueOf, entryFor}
 use Rattle.rules.specs.Start.{fresh, startedTo, opened, begun}
 use Rattle.rules.specs.Events.{takes, enters, joinsEstimates, joinsSuspicions, decides, secondPhase, marks, paused, crashed, recovered, quiet, changed, jumpsIf, jumps, relaysIf, relays, decidesIf, decidesAt, goesToPhase2, goesToPhase2If, toPhase2, adoptsIf, adopts, opensIf, opens, entersNextIf, entersNextAt, onE, onS, onF, onDecision, onSuspect, onPause, onCrash, onRecover, cutIf}
 use Rattle.rules.specs.Steps.{takerOf, isCut, delivers, slotOf, entryIn, eventOf}
-use Rattle.rules.specs.Refusals.{row, short, damaged, strange, late, down, unsent, misnamed, impossible, entersPast, refusal}
+use Rattle.rules.specs.Refusals.{row, short, damaged, strange, late, down, unsent, misnamed, impossible, recoversPast, entersPast, refusal}
 use Rattle.rules.specs.Step.{handOvers, settled, stepped}
 use Rattle.rules.specs.Parts.{numberRows}
 use Rattle.rules.specs.Run.{State, startState, next}
@@ -272,6 +272,7 @@ never-refuses g l s long sound fits =
     row-by Other (unsent l s) 6 _ (λ e. (omega arith, omega arith)) λ sent.
     row-by Other (misnamed g l s) 2 _ (λ e. never (sent-named (delivers s) (g .n) (entryIn l s) (fit known early) sent) e) λ named.
     row-by Other (impossible g s) 7 _ (λ e. (omega arith, omega arith)) λ possible.
+    row-by Other (recoversPast g s) 13 _ (λ e. (omega arith, omega arith)) λ few.
     row-by Other (entersPast g l s) 8 0 (λ e. (omega arith, omega arith)) λ within. (omega arith, omega arith)
   where
     fit : strange g s ≡ false → late s ≡ false → Fits (g .n) (entryIn l s)

@@ -1,9 +1,12 @@
--- First values never change, decisions stay, and the stored record: what is down keeps it, a pause, a crash and a recovery keep it, a cut stores that of the step uncut.
+-- First values never change, decisions stay, and the stored record: what is down keeps it, a pause and a crash keep it, a recovery keeps it but for its own count,
+-- a cut stores that of the step uncut.
 -- Assumes nothing.
 use mathlib.Core.Path.{_≡_, refl, sym, ap, subst, _∙_}
 use mathlib.Core.Bool.{Bool, true, false, _&&_, _||_, not}
 use mathlib.Core.List.{List, [], _∷_}
+use mathlib.Core.Logic.{_≢_}
 use Prim.Native.Nat.{ℕ, zero, suc, _-_, _≤_}
+use native.Mathlib.Decide.{ℕ-discrete}
 use native.Mathlib.Omega.{arith}
 use lib.Dec.{eqb, ltb}
 use lib.ListN.{length, getD}
@@ -20,66 +23,23 @@ use Rattle.rules.specs.Start.{fresh, begun}
 use Rattle.rules.specs.Events.{takes, enters, joinsEstimates, joinsSuspicions, decides, secondPhase, marks, paused, crashed, recovered, quiet, changed, jumpsIf, jumps, relaysIf, relays, decidesIf, decidesAt, goesToPhase2, goesToPhase2If, toPhase2, adoptsIf, adopts, entersNextIf, entersNextAt, onE, onS, onF, onDecision, onSuspect, onPause, onCrash, onRecover, cutIf}
 use Rattle.rules.specs.Steps.{takerOf, isCut, entryIn, eventOf, numbersOf, roundOf, delivers, slotOf}
 use Rattle.rules.specs.Idle.{pastFor, idle, idleE, idleS, idleF}
-use Rattle.rules.specs.Refusals.{isRecover, down, maySuspect, impossible, refusal, strange, late, unsent, misnamed, entersPast}
+use Rattle.rules.specs.Refusals.{isRecover, down, maySuspect, impossible, refusal, strange, late, unsent, misnamed, recoversPast, entersPast}
 use Rattle.rules.specs.Step.{idles, orIdle, unlessRefused, course, settled, stepped}
 use Rattle.rules.specs.Run.{State, startState, next, after}
-use Rattle.rules.specs.Safety.{Begins, at, processOf, Of, FirstValuesStay, DecisionsStay, DownThrough, cut, Recovery, DownKeeps, GoingDownKeeps, CutStores}
+use Rattle.rules.specs.Safety.{Begins, at, processOf, Of, FirstValuesStay, DecisionsStay, DownThrough, cut, backUnless, back, Recovery, DownKeeps, GoingDownKeeps, CutStores}
 use Rattle.rules.proofs.BoolLaws.{and-left, or-left}
 use Rattle.rules.proofs.GroupLaws.{process-put, process-kept, started-process}
 use Rattle.rules.proofs.SoundLaws.{Passed, refusal-passed, taker-in, sound-facts}
 use Rattle.rules.proofs.Safety.Basics.{Basic, basic, basic-start, basic-next, start-is}
 use Rattle.rules.proofs.Safety.Cases.{never, throughout, put-by, process-by}
+use Rattle.rules.proofs.Safety.Fields.{keeps-first, event-keeps}
+use Rattle.rules.proofs.Safety.Recoveries.{backAs, recover-leaves}
 
--- ---- no stage changes the first value
-
-jumpsIf-first : (t : Bool) (r q v : ℕ) (p : Process) → jumpsIf t r q v p .first ≡ p .first
-unfolding jumpsIf takes enters
-jumpsIf-first true r q v p = refl
-jumpsIf-first false r q v p = refl
-
-relaysIf-first : (t : Bool) (q v : ℕ) (p : Process) → relaysIf t q v p .process .first ≡ p .first
-unfolding relaysIf takes quiet
-relaysIf-first true q v p = refl
-relaysIf-first false q v p = refl
-
-decidesIf-first : (t : Bool) (x : Next) → decidesIf t x .process .first ≡ x .process .first
-unfolding decidesIf decides
-decidesIf-first true x = refl
-decidesIf-first false x = refl
-
-phase2-first : (t : Bool) (p : Process) → goesToPhase2If t p .process .first ≡ p .first
-unfolding goesToPhase2If goesToPhase2 secondPhase quiet
-phase2-first true p = refl
-phase2-first false p = refl
-
-adoptsIf-first : (t : Bool) (q v : ℕ) (x : Next) → adoptsIf t q v x .process .first ≡ x .process .first
-unfolding adoptsIf changed takes
-adoptsIf-first true q v x = refl
-adoptsIf-first false q v x = refl
-
-nextIf-first : (t : Bool) (n i : ℕ) (x : Next) → entersNextIf t n i x .process .first ≡ x .process .first
-unfolding entersNextIf enters takes
-nextIf-first true n i x = refl
-nextIf-first false n i x = refl
-
-onE-first : (n i j r q v : ℕ) (p : Process) → onE n i j r q v p .process .first ≡ p .first
-unfolding onE decidesAt relays jumps changed joinsEstimates
-onE-first n i j r q v p = rw (decidesIf-first, relaysIf-first, jumpsIf-first)
-
-onF-first : (n i j r q v : ℕ) (p : Process) → onF n i j r q v p .process .first ≡ p .first
-unfolding onF entersNextAt adopts toPhase2 jumps changed joinsEstimates
-onF-first n i j r q v p = rw (nextIf-first, adoptsIf-first, phase2-first, jumpsIf-first)
+-- ---- first values
 
 event-first : (g : Group) (l : List ℕ) (s : Step) → eventOf g l s .process .first ≡ processAt g (takerOf s) .first
-unfolding eventOf takerOf onS joinsSuspicions onDecision decides onSuspect marks onPause paused onCrash crashed onRecover recovered quiet
-event-first g l (DeliverE i j r c) = onE-first (g .n) i j r _ _ (processAt g i)
-event-first g l (DeliverS i j r c) = phase2-first _ (joinsSuspicions j (processAt g i))
-event-first g l (DeliverF i j r c) = onF-first (g .n) i j r _ _ (processAt g i)
-event-first g l (DeliverDecision i j c) = refl
-event-first g l (Suspect i c) = refl
-event-first g l (Pause i) = refl
-event-first g l (Crash i) = refl
-event-first g l (Recover i) = refl
+unfolding recovered
+event-first g l s = event-keeps (λ (p : Process). p .first) keeps-first g l s (λ e. refl)
 
 crashed-first : (v : ℕ) (p : Process) → p .first ≡ v → crashed p .first ≡ v
 unfolding crashed
@@ -176,16 +136,17 @@ crash-still : (i : ℕ) → Still (Crash i)
 unfolding Still eventOf takerOf onCrash crashed quiet stored
 crash-still i g l = refl
 
-recover-still : (s : Step) → isRecover s ≡ true → Still s
-unfolding Still isRecover eventOf takerOf onRecover recovered quiet stored
-recover-still (DeliverE i j r c) e g l = never refl e
-recover-still (DeliverS i j r c) e g l = never refl e
-recover-still (DeliverF i j r c) e g l = never refl e
-recover-still (DeliverDecision i j c) e g l = never refl e
-recover-still (Suspect i c) e g l = never refl e
-recover-still (Pause i) e g l = never refl e
-recover-still (Crash i) e g l = never refl e
-recover-still (Recover i) e g l = refl
+-- whoever recovers takes a recover
+recover-is : (s : Step) → isRecover s ≡ true → s ≡ Recover (takerOf s)
+unfolding isRecover takerOf
+recover-is (DeliverE i j r c) e = never refl e
+recover-is (DeliverS i j r c) e = never refl e
+recover-is (DeliverF i j r c) e = never refl e
+recover-is (DeliverDecision i j c) e = never refl e
+recover-is (Suspect i c) e = never refl e
+recover-is (Pause i) e = never refl e
+recover-is (Crash i) e = never refl e
+recover-is (Recover i) e = refl
 
 -- a step that process i takes only where its event keeps the stored record
 stored-step : (vs : List ℕ) (a : State) (s : Step) (i : ℕ) → Basic vs a → 1 ≤ i → i ≤ greatestSize
@@ -209,33 +170,68 @@ down-recovers true u e d = refl
 down-recovers false true e d = sym d
 down-recovers false false e d = sym e
 
-down-step : (vs : List ℕ) (a : State) (s : Step) (i : ℕ) → Basic vs a → 1 ≤ i → i ≤ greatestSize → processOf a i .up ≡ false
+down-step : (vs : List ℕ) (a : State) (s : Step) (i : ℕ) → Basic vs a → 1 ≤ i → i ≤ greatestSize → processOf a i .up ≡ false → s ≢ Recover i
     → stored (processOf (next a s) i) ≡ stored (processOf a i)
 unfolding down
-down-step vs a s i h lo hi d =
+down-step vs a s i h lo hi d ne =
     stored-step vs a s i h lo hi
     (λ p t.
-    recover-still s (down-recovers (isRecover s) (processOf a (takerOf s) .up) (p .up) (ap (λ (k : ℕ). processOf a k .up) t ∙ d)))
+    absurd (ne (recover-is s (down-recovers (isRecover s) (processOf a (takerOf s) .up) (p .up) (ap (λ (k : ℕ). processOf a k .up) t ∙ d)) ∙ ap Recover t)))
 
 pub down-keeps : DownKeeps
-down-keeps vs l ss b s i o d = down-step vs (at vs l ss) s i (basic vs l ss b) (o .low) (small b o) d
+down-keeps vs l ss b s i o d ne = down-step vs (at vs l ss) s i (basic vs l ss b) (o .low) (small b o) d ne
+
+-- its recover adds one, or is refused and leaves it down
+back-stored : (t : Bool) (p : Process) → stored (backAs t p) ≡ backUnless t (stored p)
+unfolding backAs backUnless stored recovered
+back-stored true p = refl
+back-stored false p = refl
+
+still-down : (t : Bool) (p : Process) → backAs t p .up ≡ false → stored (backAs t p) ≡ stored p
+unfolding backAs recovered
+still-down true p d = refl
+still-down false p d = never d refl
+
+module _ (vs : List ℕ) (i : ℕ) (o : Of vs i) (hi : i ≤ greatestSize) where
+  recover-stored : (a : State) → Basic vs a → processOf a i .up ≡ false → stored (processOf (next a (Recover i)) i) ≡ back (stored (processOf a i))
+  unfolding back stored
+  recover-stored a h d = ap stored (recover-leaves vs a i h o hi d) ∙ back-stored _ (processOf a i)
+
+  -- a step before and after which it is down
+  down-still : (a : State) (s : Step) → Basic vs a → processOf a i .up ≡ false → processOf (next a s) i .up ≡ false
+      → stored (processOf (next a s) i) ≡ stored (processOf a i)
+  unfolding isRecover takerOf
+  down-still a s h d e = go (isRecover s) refl (ℕ-discrete (takerOf s) i)
+    where
+      go : (t : Bool) → isRecover s ≡ t → Dec (takerOf s ≡ i) → stored (processOf (next a s) i) ≡ stored (processOf a i)
+      go false f k = down-step vs a s i h (o .low) hi d (λ g. never f (ap isRecover g))
+      go true f (no ne) = down-step vs a s i h (o .low) hi d (λ g. ne (ap takerOf g))
+      go true f (yes k) =
+          let is = recover-is s f ∙ ap Recover k in
+          let left = ap (λ (t : Step). processOf (next a t) i) is ∙ recover-leaves vs a i h o hi d in
+          ap stored left ∙ still-down _ (processOf a i) (sym (ap (λ (p : Process). p .up) left) ∙ e)
+
+down-first : (a : State) (ts : List Step) (i : ℕ) → DownThrough a ts i → processOf a i .up ≡ false
+unfolding DownThrough
+down-first a [] i d = d
+down-first a (s ∷ ts) i d = d .0
 
 -- down through a list of steps and then recovered
-down-through : (vs : List ℕ) (a : State) (ts : List Step) (i : ℕ) → Basic vs a → 1 ≤ i → i ≤ greatestSize → DownThrough a ts i
-    → stored (processOf (next (after a ts) (Recover i)) i) ≡ stored (processOf a i)
+down-through : (vs : List ℕ) (a : State) (ts : List Step) (i : ℕ) → Basic vs a → Of vs i → i ≤ greatestSize → DownThrough a ts i
+    → stored (processOf (next (after a ts) (Recover i)) i) ≡ back (stored (processOf a i))
 unfolding DownThrough after
-down-through vs a [] i h lo hi d = down-step vs a (Recover i) i h lo hi d
-down-through vs a (s ∷ ts) i h lo hi d =
-    down-through vs (next a s) ts i (basic-next vs a s h) lo hi (d .1) ∙ down-step vs a s i h lo hi (d .0)
+down-through vs a [] i h o hi d = recover-stored vs i o hi a h d
+down-through vs a (s ∷ ts) i h o hi d =
+    down-through vs (next a s) ts i (basic-next vs a s h) o hi (d .1) ∙ ap back (down-still vs i o hi a s h (d .0) (down-first (next a s) ts i (d .1)))
 
 pub recovery : Recovery
-recovery vs l ss b ts i o d = down-through vs (at vs l ss) ts i (basic vs l ss b) (o .low) (small b o) d
+recovery vs l ss b ts i o d = down-through vs (at vs l ss) ts i (basic vs l ss b) o (small b o) d
 
 -- ---- cuts
 
 -- no row of the refusals looks at the cut
 cut-refusal : (g : Group) (l : List ℕ) (s : Step) → refusal g l (cut s) ≡ refusal g l s
-unfolding refusal cut strange numbersOf late roundOf down isRecover takerOf unsent delivers entryIn slotOf misnamed impossible entersPast idle eventOf
+unfolding refusal cut strange numbersOf late roundOf down isRecover takerOf unsent delivers entryIn slotOf misnamed impossible recoversPast entersPast idle eventOf
 cut-refusal g l (DeliverE i j r c) = refl
 cut-refusal g l (DeliverS i j r c) = refl
 cut-refusal g l (DeliverF i j r c) = refl

@@ -65,6 +65,12 @@ add-bytes-2 c = search needs
 element-write-bytes-3 : tie.Need-element-write-bytes-3
 element-write-bytes-3 c = search needs
 
+add-bytes-3 : tie.Need-add-bytes-3
+add-bytes-3 c = search needs
+
+element-write-bytes-4 : tie.Need-element-write-bytes-4
+element-write-bytes-4 c = search needs
+
 element-write-flags : tie.Need-element-write-flags
 element-write-flags c = search needs
 
@@ -108,6 +114,8 @@ put-back-spec =
     element-write-bytes-2
     add-bytes-2
     element-write-bytes-3
+    add-bytes-3
+    element-write-bytes-4
     element-write-flags
     add-flags
     element-write-flags-2

@@ -65,20 +65,26 @@ add-t39 c = search needs
 element-copy-out-t42 : tie.Need-element-copy-out-t42
 element-copy-out-t42 c = search needs
 
-mul-t43 : tie.Need-mul-t43
-mul-t43 c = search needs
+add-t43 : tie.Need-add-t43
+add-t43 c = search needs
 
 element-copy-out-t46 : tie.Need-element-copy-out-t46
 element-copy-out-t46 c = search needs
 
-add-t47 : tie.Need-add-t47
-add-t47 c = search needs
+mul-t47 : tie.Need-mul-t47
+mul-t47 c = search needs
 
-mul-t48 : tie.Need-mul-t48
-mul-t48 c = search needs
+element-copy-out-t50 : tie.Need-element-copy-out-t50
+element-copy-out-t50 c = search needs
 
-element-copy-out-t51 : tie.Need-element-copy-out-t51
-element-copy-out-t51 c = search needs
+add-t51 : tie.Need-add-t51
+add-t51 c = search needs
+
+mul-t52 : tie.Need-mul-t52
+mul-t52 c = search needs
+
+element-copy-out-t55 : tie.Need-element-copy-out-t55
+element-copy-out-t55 c = search needs
 
 returns : tie.Need-returns
 unfolding processAt
@@ -108,9 +114,11 @@ take-out-spec =
     element-copy-out-t38
     add-t39
     element-copy-out-t42
-    mul-t43
+    add-t43
     element-copy-out-t46
-    add-t47
-    mul-t48
-    element-copy-out-t51
+    mul-t47
+    element-copy-out-t50
+    add-t51
+    mul-t52
+    element-copy-out-t55
     returns)

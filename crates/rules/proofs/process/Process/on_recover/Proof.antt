@@ -1,8 +1,12 @@
--- `Process::on_recover` meets its contract: up is the only field that it writes, and the rest is what `quiet` ensures. Assumes nothing.
+-- `Process::on_recover` meets its contract: it writes up and the number of recoveries, and the rest is what `quiet` ensures. Assumes nothing.
+use native.Mathlib.Omega.{arith}
 use borrow.Author.Needs.{needs}
 use Rattle.rules.specs.Events.{onRecover, recovered}
 use Rattle.rules.proofs.process.Process.on_recover.Statement.{statement}
 use Rattle.rules.proofs.process.Process.on_recover.Tie as tie
+
+add-recovered : tie.Need-add-recovered
+add-recovered c = omega arith
 
 quiet-requires : tie.Need-quiet-requires
 quiet-requires c κs = search needs
@@ -12,4 +16,4 @@ unfolding onRecover recovered
 returns c = c .quiet .ensures
 
 pub on-recover-spec : {M : Type 1} → statement M
-on-recover-spec = tie.close (tie.spec quiet-requires returns)
+on-recover-spec = tie.close (tie.spec add-recovered quiet-requires returns)
