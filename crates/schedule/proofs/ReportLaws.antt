@@ -11,7 +11,7 @@ use mir.Syntax.{w8, w32}
 use mir.Val.{Fits}
 use borrow.Author.Tests.{eq-eqb, ne-eqb}
 use Rattle.rules.specs.Limits.{greatestSize, among}
-use Rattle.rules.specs.Records.{second, third, processAt, blank, recordIf, recordOf, blankGroup}
+use Rattle.rules.specs.Records.{second, third, fourth, processAt, blank, recordIf, recordOf, blankGroup}
 use Rattle.rules.specs.Refusals.{startRefusal}
 use Rattle.rules.specs.Run.{State, startState, next, after}
 use Rattle.rules.specs.Start.{started, unlessRefusedStart, begun}
@@ -21,11 +21,12 @@ use Rattle.rules.specs.declared.step.Step.{Step}
 use Rattle.rules.proofs.GroupLaws.{started-size}
 use Rattle.rules.proofs.SoundLaws.{start-passed, step-size}
 use Rattle.rules.proofs.Safety.Basics.{onward}
+use Rattle.schedule.specs.Limits.{longestRecord, longestLine}
 use Rattle.schedule.specs.Number.{pick, most, spelled}
 use Rattle.schedule.specs.Put.{Wrote}
 use Rattle.schedule.specs.Schedule.{Reading, faulty, sound, readFile}
 use Rattle.schedule.specs.Run.{Outcome, outcome, runBy, runOf, hasRun, notRun, begins, between}
-use Rattle.schedule.specs.Report.{space, lf, appliedText, idleText, refusedText, sentText, decidedText, processesText, noneText, field, faultLine, takenText, sentEnd, sectionLine, processesLine, statusText, placeText, estimateText, decisionText, recordText, lineOfProcess, processLines, doneText, reportOf, Reports}
+use Rattle.schedule.specs.Report.{space, lf, appliedText, idleText, refusedText, sentText, decidedText, processesText, noneText, field, faultLine, takenText, sentEnd, sectionLine, processesLine, statusText, placeText, estimateText, decisionText, recoveriesEnd, recordText, lineOfProcess, processLines, doneText, reportOf, Reports}
 use Rattle.schedule.specs.declared.counts.Counts.{Counts}
 use Rattle.schedule.specs.declared.run.Ran.{Ran}
 use Rattle.schedule.proofs.PutLaws.{spelled-long, wrote-same, wrote-more, wrote-first}
@@ -88,6 +89,7 @@ pub record Narrow (p : Process) : Type 0 where
   pub proposer : p .proposer ≤ most
   pub value : p .value ≤ most
   pub decision : p .decision ≤ most
+  pub recoveries : p .recoveries ≤ most
 
 module _ (p : Process) (h : Narrow p) where
   pub place-long : length (placeText p) ≤ 27
@@ -109,11 +111,16 @@ module _ (p : Process) (h : Narrow p) where
       go true = field-long space (p .decision) (h .decision)
       go false = omega arith
 
-  pub record-long : length (recordText p) ≤ 61
+  pub recoveries-long : length (recoveriesEnd p) ≤ 12
+  unfolding recoveriesEnd
+  recoveries-long = both-long (field space (p .recoveries)) lf (field-long space (p .recoveries) (h .recoveries)) one-long
+
+  pub record-long : length (recordText p) ≤ longestRecord
   unfolding recordText
   record-long =
-      both-long (placeText p) (estimateText p ++ (decisionText p ++ lf)) place-long
-      (both-long (estimateText p) (decisionText p ++ lf) estimate-long (both-long (decisionText p) lf decision-long one-long))
+      both-long (placeText p) (estimateText p ++ (decisionText p ++ recoveriesEnd p)) place-long
+      (both-long (estimateText p) (decisionText p ++ recoveriesEnd p) estimate-long
+      (both-long (decisionText p) (recoveriesEnd p) decision-long recoveries-long))
 
 -- every record of a group whose numbers fit their widths
 pub record-narrow : (g : Group) → ((j : ℕ) → Fits w32 (getD (g .words) j 0)) → ((j : ℕ) → Fits w8 (getD (g .bytes) j 0)) → (i : ℕ) → Narrow (recordOf g i)
@@ -128,10 +135,11 @@ record-narrow g words bytes i = go (among greatestSize i)
           proposer = omega (arith, bytes (third + (i - 1)));
           value = omega (arith, words (second + (i - 1)));
           decision = omega (arith, words (third + (i - 1)));
+          recoveries = omega (arith, bytes (fourth + (i - 1)));
         }
-    go false = record { round = omega arith; phase = omega arith; proposer = omega arith; value = omega arith; decision = omega arith }
+    go false = record { round = omega arith; phase = omega arith; proposer = omega arith; value = omega arith; decision = omega arith; recoveries = omega arith }
 
-pub line-long : (g : Group) (i : ℕ) → i ≤ most → Narrow (recordOf g i) → length (lineOfProcess g i) ≤ 71
+pub line-long : (g : Group) (i : ℕ) → i ≤ most → Narrow (recordOf g i) → length (lineOfProcess g i) ≤ longestLine
 unfolding lineOfProcess
 line-long g i m h = both-long (spelled i) (recordText (recordOf g i)) (spelled-long i m) (record-long (recordOf g i) h)
 

@@ -79,7 +79,7 @@ sectionLine w c = w ++ (field space (c .steps) ++ (takenText c ++ sentEnd c))
 unfoldable pub processesLine : ℕ → List ℕ
 processesLine n = field processesText n ++ lf
 
--- "Process lines: number, up or down, round, phase, proposer, estimate value, decision or `-`."
+-- "Process lines: number, up or down, round, phase, proposer, estimate value, decision or `-`." Request 2026-03: "The process lines of the report end with" the recoveries.
 unfoldable pub statusText : Bool → List ℕ
 statusText up = pick up upText downText
 
@@ -92,8 +92,11 @@ estimateText p = field space (p .proposer) ++ field space (p .value)
 unfoldable pub decisionText : Process → List ℕ
 decisionText p = pick (p .decided) (field space (p .decision)) noneText
 
+unfoldable pub recoveriesEnd : Process → List ℕ
+recoveriesEnd p = field space (p .recoveries) ++ lf
+
 unfoldable pub recordText : Process → List ℕ
-recordText p = placeText p ++ (estimateText p ++ (decisionText p ++ lf))
+recordText p = placeText p ++ (estimateText p ++ (decisionText p ++ recoveriesEnd p))
 
 unfoldable pub lineOfProcess : Group → ℕ → List ℕ
 lineOfProcess g i = spelled i ++ recordText (recordOf g i)

@@ -30,7 +30,7 @@ pub(crate) fn no_run(fault: Fault) -> Ran
 {
     let words = [0u32; 3 * Group::GREATEST];
     let halves = [0u16; 2 * Group::GREATEST];
-    let bytes = [0u8; 3 * Group::GREATEST];
+    let bytes = [0u8; 4 * Group::GREATEST];
     let flags = [false; 3 * Group::GREATEST];
     let group = Group {
         n: 0,

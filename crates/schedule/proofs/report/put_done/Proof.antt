@@ -1,6 +1,7 @@
 -- `report::put_done` meets its contract: two sections' lines and the processes' are one piece. Assumes nothing.
 use Prim.Native.Nat.{_+_, _*_}
 use native.Mathlib.Omega.{arith}
+use Rattle.schedule.specs.Limits.{longestLine}
 use Rattle.schedule.specs.Header.{warmupWord, measuredWord}
 use Rattle.schedule.specs.Report.{doneText}
 use Rattle.schedule.proofs.PutLaws.{wrote-more, room-after}
@@ -42,9 +43,9 @@ put-processes-requires c κs =
     let fits = c .before .before .before .before .before .before .before .before .before .before .before .before .before .before .before .before .before .before .before .good .1 .1 .0 .1 .1 .1 in
     let short : Short w = search needs in
     let short′ : Short m = search needs in
-    let room = room-after (109 + (21 + n * 71)) (c .before .before .before .before .before .before .before .before .before .before .before .before .put-section .ensures) (section-long warmupWord w (omega arith) short) (omega (arith, c .before .before .before .before .before .before .before .before .before .before .before .before .before .before .before .before .before .before .before .pre)) in
-    let room′ = room-after (21 + n * 71) (c .before .before .before .before .before .before .before .put-section2 .ensures) (section-long measuredWord m (omega arith) short′) room in
-    (c .before .before .before .before .before .before .before .before .before .before .before .before .before .before .before .before .before .before .before .pre .0, room-after (n * 71) (c .before .before .before .put-size .ensures) (size-long n (omega (arith, c .before .before .before .before .before .before .before .before .before .before .before .before .before .before .before .before .before .before .before .pre))) room′)
+    let room = room-after (109 + (21 + n * longestLine)) (c .before .before .before .before .before .before .before .before .before .before .before .before .put-section .ensures) (section-long warmupWord w (omega arith) short) (omega (arith, c .before .before .before .before .before .before .before .before .before .before .before .before .before .before .before .before .before .before .before .pre)) in
+    let room′ = room-after (21 + n * longestLine) (c .before .before .before .before .before .before .before .put-section2 .ensures) (section-long measuredWord m (omega arith) short′) room in
+    (c .before .before .before .before .before .before .before .before .before .before .before .before .before .before .before .before .before .before .before .pre .0, room-after (n * longestLine) (c .before .before .before .put-size .ensures) (size-long n (omega (arith, c .before .before .before .before .before .before .before .before .before .before .before .before .before .before .before .before .before .before .before .pre))) room′)
 
 same-length : tie.Need-same-length
 same-length c = search needs

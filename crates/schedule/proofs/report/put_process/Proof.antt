@@ -1,6 +1,7 @@
 -- `report::put_process` meets its contract: a number and the record behind it are one piece. Assumes nothing.
 use Prim.Native.Nat.{_≤_}
 use native.Mathlib.Omega.{arith}
+use Rattle.schedule.specs.Limits.{longestRecord}
 use Rattle.schedule.specs.Number.{most}
 use mathlib.Core.Path.{ap}
 use Rattle.schedule.specs.Report.{recordText, lineOfProcess}
@@ -18,7 +19,7 @@ process-requires c κs = search needs
 put-record-requires : tie.Need-put-record-requires
 put-record-requires c κs =
     let small : c .before .before .before .before .before .before .before .args .i ≤ most = omega arith in
-    room-after 61 (c .before .before .before .before .put-number .ensures) (spelled-long (c .before .before .before .before .before .before .before .args .i) small) (omega arith)
+    room-after longestRecord (c .before .before .before .before .put-number .ensures) (spelled-long (c .before .before .before .before .before .before .before .args .i) small) (omega arith)
 
 same-length : tie.Need-same-length
 same-length c = search needs

@@ -1,4 +1,4 @@
--- `report::put_processes` meets its contract. The loop's invariant: the lines of the first i processes stand, and no line is longer than 71 bytes. Assumes nothing.
+-- `report::put_processes` meets its contract. The loop's invariant: the lines of the first i processes stand, and no line is longer than its room. Assumes nothing.
 use Prim.Native.Nat.{ℕ, _+_, _-_, _*_, _≤_}
 use mathlib.Core.Path.{_≡_, ap}
 use native.Mathlib.Omega.{arith}
@@ -6,6 +6,7 @@ use lib.ListN.{getD}
 use denote.Ref.{now}
 use mir.Syntax.{w8, w32}
 use mir.Val.{Fits}
+use Rattle.schedule.specs.Limits.{longestLine}
 use Rattle.schedule.specs.Number.{most}
 use Rattle.schedule.specs.Put.{Wrote}
 use Rattle.schedule.specs.Report.{processLines}
@@ -16,7 +17,7 @@ use Rattle.schedule.proofs.report.put_processes.Statement.{statement}
 use Rattle.schedule.proofs.report.put_processes.Tie as tie
 
 abbrev Inv-loop : tie.InvT-loop
-Inv-loop out₀ at group n i₀ place₀ out i place = (i ≤ n) × Wrote out₀ at (processLines group i) out place × (place ≤ at + i * 71)
+Inv-loop out₀ at group n i₀ place₀ out i place = (i ≤ n) × Wrote out₀ at (processLines group i) out place × (place ≤ at + i * longestLine)
 
 abbrev μ-loop : tie.MeasureT-loop
 μ-loop out₀ at group n i₀ place₀ out i place = n - i

@@ -14,34 +14,31 @@ put-estimate-requires : tie.Need-put-estimate-requires
 put-estimate-requires c κs =
     let p = c .before .before .before .before .before .before .args .p in
     let narrow : Narrow p = search needs in
-    let room = room-after 34 (c .before .before .before .put-place .ensures) (place-long p narrow) (omega arith) in
+    let room = room-after 45 (c .before .before .before .put-place .ensures) (place-long p narrow) (omega arith) in
     omega arith
 
 put-decision-requires : tie.Need-put-decision-requires
 put-decision-requires c κs =
     let p = c .before .before .before .before .before .before .before .before .before .before .args .p in
     let narrow : Narrow p = search needs in
-    let room = room-after 34 (c .before .before .before .before .before .before .before .put-place .ensures) (place-long p narrow) (omega arith) in
-    let room′ = room-after 12 (c .before .before .before .put-estimate .ensures) (estimate-long p narrow) room in
+    let room = room-after 45 (c .before .before .before .before .before .before .before .put-place .ensures) (place-long p narrow) (omega arith) in
+    let room′ = room-after 23 (c .before .before .before .put-estimate .ensures) (estimate-long p narrow) room in
     omega arith
 
-slice-aggregate-put-bytes : tie.Need-slice-aggregate-put-bytes
-slice-aggregate-put-bytes c = search needs
-
-put-bytes-requires : tie.Need-put-bytes-requires
-put-bytes-requires c κs =
-    let p = c .before .before .before .before .before .before .before .before .before .before .before .before .before .before .before .args .p in
+put-recoveries-requires : tie.Need-put-recoveries-requires
+put-recoveries-requires c κs =
+    let p = c .before .before .before .before .before .before .before .before .before .before .before .before .before .before .args .p in
     let narrow : Narrow p = search needs in
-    let room = room-after 34 (c .before .before .before .before .before .before .before .before .before .before .before .before .put-place .ensures) (place-long p narrow) (omega arith) in
-    let room′ = room-after 12 (c .before .before .before .before .before .before .before .before .put-estimate .ensures) (estimate-long p narrow) room in
-    room-after 1 (c .before .before .before .before .put-decision .ensures) (decision-long p narrow) room′
+    let room = room-after 45 (c .before .before .before .before .before .before .before .before .before .before .before .put-place .ensures) (place-long p narrow) (omega arith) in
+    let room′ = room-after 23 (c .before .before .before .before .before .before .before .put-estimate .ensures) (estimate-long p narrow) room in
+    room-after 12 (c .before .before .before .put-decision .ensures) (decision-long p narrow) room′
 
 same-length : tie.Need-same-length
 same-length c = search needs
 
 returns : tie.Need-returns
 unfolding recordText
-returns c = wrote-more (c .before .before .before .before .before .before .before .before .before .before .before .before .before .before .before .put-place .ensures) (wrote-more (c .before .before .before .before .before .before .before .before .before .before .before .put-estimate .ensures) (wrote-more (c .before .before .before .before .before .before .before .put-decision .ensures) (c .before .before .put-bytes .ensures)))
+returns c = wrote-more (c .before .before .before .before .before .before .before .before .before .before .before .before .before .before .put-place .ensures) (wrote-more (c .before .before .before .before .before .before .before .before .before .before .put-estimate .ensures) (wrote-more (c .before .before .before .before .before .before .put-decision .ensures) (c .before .before .put-recoveries .ensures)))
 
 pub put-record-spec : {M : Type 1} → statement M
 put-record-spec =
@@ -50,7 +47,6 @@ put-record-spec =
     put-place-requires
     put-estimate-requires
     put-decision-requires
-    slice-aggregate-put-bytes
-    put-bytes-requires
+    put-recoveries-requires
     same-length
     returns)
