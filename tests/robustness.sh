@@ -22,9 +22,9 @@ failed=0
 expected='WARMUP 1 applied 1 idle 0 refused 0 sent 0 decided 0
 MEASURED 4 applied 3 idle 0 refused 1 sent 3 decided 2
 PROCESSES 3
-1 up 0 1 1 7 -
-2 up 0 1 1 7 7
-3 up 0 1 3 5 7'
+1 up 0 1 1 7 - 0
+2 up 0 1 1 7 7 0
+3 up 0 1 3 5 7 0'
 
 # check NAME STATUS TEXT: the last try ended with STATUS and said TEXT ("*" stands for any status that
 # the program itself chose: no timeout and no signal).
@@ -73,7 +73,7 @@ wait
 all_refused='WARMUP 0 applied 0 idle 0 refused 0 sent 0 decided 0
 MEASURED 2978 applied 0 idle 0 refused 2978 sent 0 decided 0
 PROCESSES 1
-1 up 0 1 1 0 -'
+1 up 0 1 1 0 - 0'
 try "$model" run report < greatest;     check "report, $(stat -c %s greatest) bytes" 0 "$all_refused"
 { head -c 40001 greatest; sleep 0.3; tail -c +40002 greatest; } | { try "$model" run report; echo "$status" > status; }
 status=$(cat status);                   check "report, the same in two halves with a rest between" 0 "$all_refused"

@@ -10,11 +10,11 @@ use std::path::{Path, PathBuf};
 
 const HEAD: &str = "# Test vectors
 
-Schedule files with the reports that document 01 demands, as the implementation in `tests/independent` gives them.
-`step_`, `cut_`, `idle_` and `refused_` files (letter, part of the rule or cause) hit what they are named after in their
-last step, the only measured one. `ahead_of` files show the order of the refusals, `error_` files give another report with one
-of document 01's errors that look right, `form_` files try the form of the file, and `walk_` files are whole random walks.
-Refusals 2 and 11 cannot occur in a run of a file.
+Schedule files with the reports that document 01 and request 2026-03 demand, as the implementation in `tests/independent`
+gives them. `step_`, `cut_`, `idle_` and `refused_` files (letter, part of the rule or cause) hit what they are named after
+in their last step, the only measured one. `ahead_of` files show the order of the refusals, `error_` files give another report
+with one of the errors that look right (document 01's, and two about the number of recoveries), `form_` files try the form of
+the file, and `walk_` files are whole random walks. Refusals 2 and 11 cannot occur in a run of a file.
 
 | File | What it hits | Report |
 |---|---|---|

@@ -1,8 +1,9 @@
 // Schedule files to hold two programs against each other, repeatable from a seed: walks that
-// deliver what is really in the store, plans that reach the last round, and files damaged in
-// every place of the form. The walks run on the rules of this folder, always without an error.
+// deliver what is really in the store, plans that reach the last round, walks past the greatest
+// number of recoveries, and files damaged in every place of the form. The walks run on the rules
+// of this folder, always without an error.
 
-use crate::rules::{coordinator, majority, Group, Message, Step};
+use crate::rules::{coordinator, majority, Group, Message, Step, MOST_RECOVERIES};
 use crate::schedule::Schedule;
 use std::collections::BTreeSet;
 
@@ -320,6 +321,37 @@ impl Walk {
         }
     }
 
+    /// A step that takes a process down, if it is up: a crash, a pause or a cut.
+    fn downward(&self, who: u32, chance: &mut Chance) -> Step {
+        match chance.weighted(&[7, 7, 1, 6]) {
+            0 => Step::Crash { who },
+            1 => Step::Pause { who },
+            2 => Step::Suspect { who, cut: true },
+            _ => Step::Deliver { to: who, message: self.from_the_store(chance), cut: true },
+        }
+    }
+
+    /// These go down and come back until one of them has so many recoveries, with other steps between.
+    fn come_back(&mut self, these: &[u32], goal: u32, chance: &mut Chance) {
+        let mood = mood(chance.pick(&["calm", "suspicious", "mixed"]), chance);
+        let everyone = self.everyone();
+        while these.iter().all(|p| self.group.record(*p).recoveries < goal) && self.steps.len() < 3_000 {
+            let who = chance.pick(these);
+            let step = if self.group.is_up(who) { self.downward(who, chance) } else { Step::Recover { who } };
+            self.take(step);
+            match chance.below(40) {
+                // Refused where it stands: 7 while up, 5 while down.
+                0 if self.group.is_up(who) => self.take(Step::Recover { who }),
+                0 => {
+                    let step = self.downward(who, chance);
+                    self.take(step)
+                }
+                1..=6 => self.advance(&mood, &everyone, chance),
+                _ => {}
+            }
+        }
+    }
+
     fn schedule(self, chance: &mut Chance) -> Schedule {
         let mut warmup = self.steps;
         let at = match chance.below(4) {
@@ -343,6 +375,30 @@ fn small(chance: &mut Chance) -> Schedule {
     let mut warmup = walk.steps;
     let measured = warmup.split_off(1 + chance.below(length as u64 - 1) as usize);
     Schedule { values: walk.values, warmup, measured }
+}
+
+/// A walk to the greatest number of recoveries, or one short of it; then more recovers, which get
+/// 7 while the process is up and 13 while it is down.
+fn many_recoveries(chance: &mut Chance) -> Schedule {
+    let n = group_size(chance);
+    let mut walk = Walk::new(n, chance);
+    let length = chance.below(30) as usize;
+    walk.walk(&["mixed", "suspicious"], length, chance);
+    let who = chance.between(1, u64::from(n)) as u32;
+    let these = if chance.percent(70) { vec![who] } else { vec![who, who % n + 1] };
+    let goal = MOST_RECOVERIES - u32::from(chance.percent(20));
+    walk.come_back(&these, goal, chance);
+    for _ in 0..chance.between(3, 12) {
+        let who = chance.pick(&these);
+        let step = match chance.below(3) {
+            0 => walk.downward(who, chance),
+            _ => Step::Recover { who },
+        };
+        walk.take(step);
+    }
+    let length = walk.steps.len() + chance.between(0, 60) as usize;
+    walk.walk(&["stormy", "mixed", "wild"], length, chance);
+    walk.schedule(chance)
 }
 
 /// A sound file of exactly so many bytes: a walk, then refused steps as long as they must be.
@@ -631,7 +687,8 @@ pub fn file(index: u64, seed: u64) -> (String, Vec<u8>) {
     let mut owned = Chance::new(seed, index);
     let chance = &mut owned;
     // Every fourth file has a damaged byte, every twentieth a damaged line and every fortieth is
-    // damaged as a whole, all damages in turn; the others have their shares.
+    // damaged as a whole, all damages in turn; every two-hundredth walks to the greatest number of
+    // recoveries; the others have their shares.
     let turn = index.wrapping_add(seed.wrapping_mul(7_919));
     if index % 4 == 0 {
         let (bytes, way) = damaged_byte(turn / 4);
@@ -643,6 +700,9 @@ pub fn file(index: u64, seed: u64) -> (String, Vec<u8>) {
     if index % 40 == 2 {
         let damage = FILE_DAMAGES[(turn / 40) as usize % FILE_DAMAGES.len()];
         return (format!("file-{}", damage), damaged_file(damage, chance));
+    }
+    if index % 200 == 99 {
+        return ("recoveries".into(), many_recoveries(chance).text().into_bytes());
     }
     let share = chance.weighted(&[95, 120, 110, 120, 75, 75, 45, 15, 4, 1, 3, 50]);
     let walked = |kind: &str, moods: &[&str], low: u64, high: u64, chance: &mut Chance| {

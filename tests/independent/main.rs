@@ -1,6 +1,6 @@
-// An implementation of document 01 that shares nothing with the proved one, to hold the two
-// against each other: it answers schedule files, makes them, and compares two sets of answers.
-// Standard library only; the rules are in rules.rs, the file form in schedule.rs.
+// An implementation of document 01 and request 2026-03 that shares nothing with the proved one,
+// to hold the two against each other: it answers schedule files, makes them, and compares two sets
+// of answers. Standard library only; the rules are in rules.rs, the file form in schedule.rs.
 
 mod choose;
 mod generate;
@@ -24,7 +24,8 @@ independent hits FILE..               for each file a line with its name and all
 independent choose DIR OUT            choose, shorten and name files of DIR for a folder of test vectors
 --error NAME                          with an error that looks right; NAME is one of
                                       counts-receptions, back-in-phase-1, hands-over-before-storing,
-                                      f-after-adopting, pause-empties-tallies
+                                      f-after-adopting, pause-empties-tallies,
+                                      recovery-not-counted-after-a-pause, recoveries-lost-at-a-crash
 ";
 
 type Failure = String;

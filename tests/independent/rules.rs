@@ -1,12 +1,14 @@
-// The rules of document 01, written from its words alone: what a group does with one step.
-// Records, tallies and the message store are plain maps and sets. Nothing here knows of files.
-// A process has a disk with its stored record and, unless it crashed, a memory with its tallies.
+// The rules of document 01 and of request 2026-03, written from their words alone: what a group
+// does with one step. Records, tallies and the message store are plain maps and sets. Nothing here
+// knows of files. A process has a disk with its stored record and, unless it crashed, a memory with
+// its tallies.
 
 use std::collections::{BTreeMap, BTreeSet};
 use std::fmt;
 
 pub const GREATEST_GROUP: u32 = 16;
 pub const LAST_ROUND: u32 = 63;
+pub const MOST_RECOVERIES: u32 = 255;
 
 pub fn majority(n: u32) -> usize {
     (n / 2 + 1) as usize
@@ -16,7 +18,8 @@ pub fn coordinator(round: u32, n: u32) -> u32 {
     round % n + 1
 }
 
-/// Document 01's "errors that look right": one of them can be switched on.
+/// Document 01's "errors that look right" and two about the number of recoveries: one of them
+/// can be switched on.
 #[derive(Clone, Copy, PartialEq, Eq, Debug)]
 pub enum Error {
     CountsReceptions,
@@ -24,14 +27,18 @@ pub enum Error {
     HandsOverBeforeStoring,
     FAfterAdopting,
     PauseEmptiesTallies,
+    RecoveryNotCountedAfterAPause,
+    RecoveriesLostAtACrash,
 }
 
-pub const ERRORS: [(&str, Error); 5] = [
+pub const ERRORS: [(&str, Error); 7] = [
     ("counts-receptions", Error::CountsReceptions),
     ("back-in-phase-1", Error::BackInPhase1),
     ("hands-over-before-storing", Error::HandsOverBeforeStoring),
     ("f-after-adopting", Error::FAfterAdopting),
     ("pause-empties-tallies", Error::PauseEmptiesTallies),
+    ("recovery-not-counted-after-a-pause", Error::RecoveryNotCountedAfterAPause),
+    ("recoveries-lost-at-a-crash", Error::RecoveriesLostAtACrash),
 ];
 
 #[derive(Clone, Copy, PartialEq, Eq, Debug)]
@@ -121,6 +128,8 @@ pub struct Stored {
     pub estimate: Estimate,
     pub marked: bool,
     pub decision: Option<u32>,
+    /// The number of recoveries.
+    pub recoveries: u32,
 }
 
 /// The distinct senders heard. The number of receptions is kept for the error that counts them.
@@ -199,6 +208,7 @@ impl Group {
                 estimate: Estimate { proposer: i, value },
                 marked: false,
                 decision: None,
+                recoveries: 0,
             };
             disk.insert(i, record.clone());
             memory.insert(i, Memory { record, estimates: Tally::default(), suspicions: Tally::default() });
@@ -282,7 +292,8 @@ impl Group {
         }
     }
 
-    /// Refusal 2: no start and no step makes a damaged group, so this never speaks.
+    /// Refusal 2: no start and no step makes a damaged group, so this never speaks. The number of
+    /// recoveries is no case of it.
     fn damaged(&self) -> bool {
         let in_group = |p: &u32| (1..=self.n).contains(p);
         !(1..=GREATEST_GROUP).contains(&self.n)
@@ -334,6 +345,9 @@ impl Group {
             Step::Pause { .. } => Ok(Effect::Pause),
             Step::Crash { .. } => Ok(Effect::Crash),
             Step::Recover { .. } if self.is_up(who) => Err((7, "already_up")),
+            Step::Recover { .. } if self.record(who).recoveries >= MOST_RECOVERIES => {
+                Err((13, if self.paused.contains(&who) { "paused" } else { "crashed" }))
+            }
             Step::Recover { .. } => Ok(Effect::Recover),
         }
     }
@@ -362,6 +376,9 @@ impl Group {
             let possible = record.decision.is_none() && record.phase == 1 && !record.marked;
             if first == 5 && matches!(step, Step::Suspect { .. }) && !possible {
                 names.push("7".to_string());
+            }
+            if first == 7 && matches!(step, Step::Recover { .. }) && record.recoveries >= MOST_RECOVERIES {
+                names.push("13".to_string());
             }
         }
         names.into_iter().map(|name| format!("refused_{}_ahead_of_{}", first, name)).collect()
@@ -501,6 +518,17 @@ impl Group {
 
     fn crash(&mut self, who: u32) {
         self.memory.remove(&who);
+        if self.has_error(Error::RecoveriesLostAtACrash) {
+            self.disk.get_mut(&who).expect("a process has a disk").recoveries = 0;
+        }
+    }
+
+    /// One recovery more, on the disk and in the memory that a pause left.
+    fn count_recovery(&mut self, who: u32) {
+        self.disk.get_mut(&who).expect("a process has a disk").recoveries += 1;
+        if let Some(me) = self.memory.get_mut(&who) {
+            me.record.recoveries += 1;
+        }
     }
 
     pub fn step(&mut self, step: &Step) -> Told {
@@ -561,7 +589,11 @@ impl Group {
                 self.crash(who);
             }
             Effect::Recover => {
-                if self.paused.remove(&who) {
+                let paused = self.paused.remove(&who);
+                if !(paused && self.has_error(Error::RecoveryNotCountedAfterAPause)) {
+                    self.count_recovery(who);
+                }
+                if paused {
                     told.parts.push("recovers_from_a_pause");
                 } else {
                     let mut record = self.disk[&who].clone();

@@ -1,7 +1,8 @@
-// The schedule file and the report of document 01: reading a file into lists of steps,
-// running them with a watch on safety, and writing the report as text.
+// The schedule file and the report of document 01, with the number of recoveries of request
+// 2026-03: reading a file into lists of steps, running them with a watch on safety, and writing
+// the report as text.
 
-use crate::rules::{Error, Estimate, Group, Message, Outcome, Step, Stored, Told, GREATEST_GROUP};
+use crate::rules::{Error, Estimate, Group, Message, Outcome, Step, Stored, Told, GREATEST_GROUP, MOST_RECOVERIES};
 use std::collections::{BTreeMap, BTreeSet};
 use std::fmt::Write;
 
@@ -170,8 +171,15 @@ impl Watch {
         let record = group.record(who);
         let before = &self.last_stored[&who];
         let mut complain = |what: String| self.complaints.push(format!("step {} ({}): {}", place, step, what));
-        if matches!(step, Step::Recover { .. } | Step::Pause { .. } | Step::Crash { .. }) && record != before {
+        // The record last stored, with the one recovery that a recover itself adds.
+        let added = u32::from(matches!(step, Step::Recover { .. }));
+        let due = Stored { recoveries: before.recoveries + added, ..before.clone() };
+        let whole = matches!(step, Step::Recover { .. } | Step::Pause { .. } | Step::Crash { .. });
+        if whole && *record != due || record.recoveries != due.recoveries {
             complain(format!("process {} has not the record that it last stored", who));
+        }
+        if record.recoveries > MOST_RECOVERIES {
+            complain(format!("process {} has {} recoveries", who, record.recoveries));
         }
         if before.decision.is_some() && record.decision != before.decision {
             complain(format!("process {} changed its decision", who));
@@ -233,7 +241,7 @@ impl Statistic {
             list(&[("applied", "applied"), ("idle", "idle"), ("refused", "refused"), ("cut and applied", "cut applied"),
                 ("cut and idle but for the cut", "cut idle"), ("cut and refused", "cut refused"), ("jumps", "jumps")]),
             list(&[("2:", "refused 2"), ("3:", "refused 3"), ("4:", "refused 4"), ("5:", "refused 5"),
-                ("6:", "refused 6"), ("7:", "refused 7"), ("8:", "refused 8")]),
+                ("6:", "refused 6"), ("7:", "refused 7"), ("8:", "refused 8"), ("13:", "refused 13")]),
             list(&[("decided processes", "decided"), ("runs with a decision", "deciding runs"), ("entries sent", "sent")]),
             self.highest_round,
         )
@@ -343,14 +351,15 @@ pub fn answer(bytes: &[u8], error: Option<Error>, statistic: &mut Statistic, wan
         statistic.highest_round = statistic.highest_round.max(record.round);
         let _ = writeln!(
             report,
-            "{} {} {} {} {} {} {}",
+            "{} {} {} {} {} {} {} {}",
             who,
             if group.is_up(who) { "up" } else { "down" },
             record.round,
             record.phase,
             record.estimate.proposer,
             record.estimate.value,
-            record.decision.map_or("-".to_string(), |value| value.to_string())
+            record.decision.map_or("-".to_string(), |value| value.to_string()),
+            record.recoveries
         );
     }
     Answer { report, complaints: watch.complaints, hits }

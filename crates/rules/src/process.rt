@@ -20,9 +20,10 @@ pub enum Message {
 }
 
 // A process. `decision` is one where `decided` is true, and none otherwise. All but `up` and the tallies is the stored record.
-// The fields stand by width, which is cheaper to take out and to put back than document 01's order.
+// The two that no message changes stand first, the others by width: of the orders tried this one is cheapest to take out and to put back.
 pub struct Process {
     pub first: u32,
+    pub recoveries: u8,
     pub value: u32,
     pub decision: u32,
     pub estimates: u16,
@@ -30,7 +31,6 @@ pub struct Process {
     pub round: u8,
     pub phase: u8,
     pub proposer: u8,
-    pub recoveries: u8,
     pub marked: bool,
     pub decided: bool,
     pub up: bool,
