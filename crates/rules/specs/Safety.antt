@@ -1,19 +1,17 @@
 -- What holds of every run, stated over the definitions that the contracts of start and step cite. The proofs are in proofs/Safety. Assumes nothing.
 use mathlib.Core.Path.{_≡_}
 use mathlib.Core.Bool.{Bool, true, false, _&&_, not}
-use mathlib.Core.List.{List, [], _∷_, _++_}
-use mathlib.Core.Logic.{_↔_, _⊎_, _≢_}
-use Prim.Native.Nat.{ℕ, zero, suc, _+_, _-_, _^_, _≤_, _<_}
+use mathlib.Core.List.{List, [], _∷_}
+use mathlib.Core.Logic.{_↔_, _≢_}
+use Prim.Native.Nat.{ℕ, _+_, _-_, _^_, _≤_, _<_}
 use lib.Count.{ones}
 use lib.Dec.{eqb, ltb}
 use lib.ListN.{length, getD}
-use Rattle.rules.specs.declared.group.Group.{Group}
 use Rattle.rules.specs.declared.process.Process.{Process}
-use Rattle.rules.specs.declared.process.Message.{Message}
-use Rattle.rules.specs.declared.process.Message.the-variants.{Nothing, E, S, F, Decision}
+use Rattle.rules.specs.declared.process.Message.the-variants.{E, S, F, Decision}
 use Rattle.rules.specs.declared.step.Step.{Step}
 use Rattle.rules.specs.declared.step.Step.the-variants.{DeliverE, DeliverS, DeliverF, DeliverDecision, Suspect, Pause, Crash, Recover}
-use Rattle.rules.specs.Limits.{greatestSize, lastRound, mostRecoveries, storeLength, majority}
+use Rattle.rules.specs.Limits.{greatestSize, mostRecoveries, storeLength, majority}
 use Rattle.rules.specs.Tally.{holds, count, bitOf}
 use Rattle.rules.specs.Records.{Stored, stored, processAt, blank}
 use Rattle.rules.specs.Store.{slot, kindE, kindS, kindF, proposerOf, sentIn}

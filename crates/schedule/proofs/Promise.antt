@@ -1,16 +1,17 @@
 -- The promise of the program: what holds of every file that is read as a schedule. Assumes nothing.
-use mathlib.Core.Path.{_≡_, refl, sym, ap, subst}
+use mathlib.Core.Path.{_≡_, refl, sym, ap, subst, _∙_}
 use mathlib.Core.List.{List, [], _∷_, _++_}
 use native.Mathlib.Omega.{arith}
 use Prim.Native.Nat.{ℕ, zero, suc, _+_, _≤_, _<_, _^_}
 use lib.ListN.{length, getD}
 use Rattle.rules.specs.Limits.{storeLength}
 use Rattle.rules.specs.Tally.{bitOf}
+use Rattle.rules.specs.Records.{processAt}
 use Rattle.rules.specs.Store.{sentIn}
 use Rattle.rules.specs.Answers.{Said}
 use Rattle.rules.specs.Step.{settled, stepped, course}
-use Rattle.rules.specs.Run.{State, next, after, answers}
-use Rattle.rules.specs.Safety.{Begins, at, Holds, sumSent}
+use Rattle.rules.specs.Run.{State, startState, next, after, answers}
+use Rattle.rules.specs.Safety.{Begins, at, Of, Holds, sumSent, recoversOf}
 use Rattle.rules.specs.declared.group.Group.{Group}
 use Rattle.rules.specs.declared.course.Course.{Course}
 use Rattle.rules.specs.declared.course.Course.the-variants.{Idles, Refuses, Takes}
@@ -137,7 +138,11 @@ module _ (h : Schedule) (l : List ℕ) (b : Begins (h .values) l) where
   held : (i v : ℕ) → Decided (atEnd h l .group) i v → Holds (at (h .values) l (h .warmup ++ h .measured)) i v
   held i v d = subst (λ (a : State). Holds a i v) (sym end-is) (record { decided = d .decided; decision = d .decision })
 
-  run-promise : Promise h (outcome (hasRun h l) (atEnd h l .store))
+  recoveries-both : (i : ℕ) → Of (h .values) i → processAt (atEnd h l .group) i .recoveries ≡ recoversOf i (startState (h .values) l) (h .warmup ++ h .measured)
+  recoveries-both i o =
+      ap (λ (a : State). processAt (a .group) i .recoveries) (sym end-is) ∙ safety .recoveries (h .values) l (h .warmup ++ h .measured) b i o
+
+  run-promise : Promise h l (outcome (hasRun h l) (atEnd h l .store))
   unfolding hasRun
   run-promise =
       record {
@@ -149,6 +154,7 @@ module _ (h : Schedule) (l : List ℕ) (b : Begins (h .values) l) where
         decided = decided-both;
         agreement = λ i j v w oi oj di dj. safety .agreement (h .values) l (h .warmup ++ h .measured) b i j v w oi oj (held i v di) (held j w dj);
         validity = λ i v o d. safety .validity (h .values) l (h .warmup ++ h .measured) b i v o (held i v d);
+        recoveries = recoveries-both;
       }
 
 run-is : (s l : List ℕ) (h : Schedule) → readFile s ≡ sound h → runOf s l ≡ outcome (hasRun h l) (atEnd h l .store)
@@ -156,4 +162,4 @@ unfolding runOf runBy
 run-is s l h e = ap (λ (r : Reading). runBy r l) e
 
 pub promised : Promised
-promised s l h e long = subst (Promise h) (sym (run-is s l h e)) (run-promise h l (fits-begins h l (file-read s h e .1) long))
+promised s l h e long = subst (Promise h l) (sym (run-is s l h e)) (run-promise h l (fits-begins h l (file-read s h e .1) long))

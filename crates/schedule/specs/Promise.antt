@@ -1,14 +1,15 @@
 -- What holds of every file that is read as a schedule, stated over the definition of the run that the contracts cite. The proofs are in proofs/Promise. Assumes nothing.
 use mathlib.Core.Path.{_≡_}
 use mathlib.Core.Bool.{true}
-use mathlib.Core.List.{List}
+use mathlib.Core.List.{List, _++_}
 use Prim.Native.Nat.{ℕ, _+_, _≤_}
 use lib.ListN.{length}
 use Rattle.rules.specs.Limits.{storeLength}
 use Rattle.rules.specs.Tally.{count}
 use Rattle.rules.specs.Records.{processAt}
 use Rattle.rules.specs.Store.{sentIn}
-use Rattle.rules.specs.Safety.{Of, FirstValue}
+use Rattle.rules.specs.Run.{startState}
+use Rattle.rules.specs.Safety.{Of, FirstValue, recoversOf}
 use Rattle.rules.specs.declared.group.Group.{Group}
 use Rattle.schedule.specs.Schedule.{Schedule, readFile, sound}
 use Rattle.schedule.specs.Run.{Outcome, runOf}
@@ -27,8 +28,8 @@ pub record Decided (g : Group) (i v : ℕ) : Type 0 where
   pub decided : processAt g i .decided ≡ true
   pub decision : processAt g i .decision ≡ v
 
--- of the schedule h and of all that its run over a store of at least 3,088 entries yields
-pub record Promise (h : Schedule) (o : Outcome) : Type 0 where
+-- of the schedule h and of all that its run over a store l of at least 3,088 entries yields
+pub record Promise (h : Schedule) (l : List ℕ) (o : Outcome) : Type 0 where
   -- both sections have as many steps as were read
   pub warmup : o .ran .warmup .steps ≡ length (h .warmup)
   pub measured : o .ran .measured .steps ≡ length (h .measured)
@@ -41,7 +42,9 @@ pub record Promise (h : Schedule) (o : Outcome) : Type 0 where
   -- no two processes hold different decisions, and each is some process's first value
   pub agreement : (i j v w : ℕ) → Of (h .values) i → Of (h .values) j → Decided (o .ran .group) i v → Decided (o .ran .group) j w → v ≡ w
   pub validity : (i v : ℕ) → Of (h .values) i → Decided (o .ran .group) i v → FirstValue (h .values) v
+  -- the number of recoveries of each process counts the applied recovers of both sections
+  pub recoveries : (i : ℕ) → Of (h .values) i → processAt (o .ran .group) i .recoveries ≡ recoversOf i (startState (h .values) l) (h .warmup ++ h .measured)
 
 -- the promise of the program: every file that is read as a schedule keeps it
 abbrev pub Promised : Type 0
-Promised = (s l : List ℕ) (h : Schedule) → readFile s ≡ sound h → storeLength ≤ length l → Promise h (runOf s l)
+Promised = (s l : List ℕ) (h : Schedule) → readFile s ≡ sound h → storeLength ≤ length l → Promise h l (runOf s l)

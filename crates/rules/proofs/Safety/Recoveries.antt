@@ -2,11 +2,11 @@
 use mathlib.Core.Path.{_≡_, refl, sym, ap, subst, _∙_}
 use mathlib.Core.Bool.{Bool, true, false, _&&_}
 use mathlib.Core.List.{List, [], _∷_}
-use mathlib.Core.Logic.{_↔_, _≢_}
-use Prim.Native.Nat.{ℕ, _+_, _-_, _≤_}
+use mathlib.Core.Logic.{_↔_}
+use Prim.Native.Nat.{ℕ, _+_, _≤_}
 use native.Mathlib.Omega.{arith}
 use lib.Dec.{eqb, ltb}
-use lib.ListN.{length, getD}
+use lib.ListN.{length}
 use borrow.Author.Tests.{eq-eqb, ne-eqb, le-ltb, lt-ltb, ltb-true, ltb-false}
 use Rattle.rules.specs.declared.group.Group.{Group}
 use Rattle.rules.specs.declared.process.Process.{Process}
@@ -15,23 +15,23 @@ use Rattle.rules.specs.declared.step.Step.{Step}
 use Rattle.rules.specs.declared.step.Step.the-variants.{DeliverE, DeliverS, DeliverF, DeliverDecision, Suspect, Pause, Crash, Recover}
 use Rattle.rules.specs.declared.course.Course.{Course}
 use Rattle.rules.specs.declared.course.Course.the-variants.{Idles, Refuses, Takes}
-use Rattle.rules.specs.Limits.{greatestSize, mostRecoveries, storeLength, among}
+use Rattle.rules.specs.Limits.{greatestSize, mostRecoveries, storeLength}
 use Rattle.rules.specs.Tally.{bitOf}
-use Rattle.rules.specs.Records.{processAt, withProcess, Sized}
+use Rattle.rules.specs.Records.{processAt, Sized}
 use Rattle.rules.specs.Start.{fresh, begun}
 use Rattle.rules.specs.Events.{crashed, recovered, quiet, onCrash, onRecover, cutIf}
 use Rattle.rules.specs.Steps.{takerOf, numbersOf, roundOf, delivers, isCut, eventOf}
 use Rattle.rules.specs.Idle.{idle}
-use Rattle.rules.specs.Refusals.{row, every, short, damaged, strange, late, isRecover, down, unsent, misnamed, impossible, recoversPast, entersPast, refusal}
+use Rattle.rules.specs.Refusals.{row, every, short, strange, late, isRecover, down, unsent, misnamed, impossible, recoversPast, entersPast, refusal}
 use Rattle.rules.specs.Step.{orIdle, unlessRefused, course, settled, stepped}
 use Rattle.rules.specs.Run.{State, startState, next, after}
 use Rattle.rules.specs.Safety.{Begins, at, processOf, Of, recoversOf, RecoveriesCounted, RecoveriesFit, RefusalThirteen}
 use Rattle.rules.proofs.RowLaws.{among-in}
 use Rattle.rules.proofs.GroupLaws.{process-put, started-process}
-use Rattle.rules.proofs.SoundLaws.{Passed, Taking, Fine, course-fine}
+use Rattle.rules.proofs.SoundLaws.{Fine, course-fine}
 use Rattle.rules.proofs.Safety.Basics.{Basic, basic, basic-start, basic-next, start-is}
 use Rattle.rules.proofs.Safety.Cases.{never, throughout, course-by, put-by, process-by}
-use Rattle.rules.proofs.Safety.Fields.{keeps-recoveries, event-keeps}
+use Rattle.rules.proofs.Safety.Fields.{event-keeps}
 
 -- ---- a recover of a process that is down
 
@@ -64,7 +64,7 @@ recover-leaves vs a i h o hi d =
 
 -- an event adds one where it is a recover
 event-still : (g : Group) (l : List ℕ) (s : Step) → isRecover s ≡ false → eventOf g l s .process .recoveries ≡ processAt g (takerOf s) .recoveries + 0
-event-still g l s e = omega (arith, event-keeps (λ (p : Process). p .recoveries) keeps-recoveries g l s (λ f. never e f))
+event-still g l s e = omega (arith, event-keeps (λ (x : ℕ × ℕ). x .1) g l s (λ f. never e f))
 
 event-recoveries : (g : Group) (l : List ℕ) (s : Step) → eventOf g l s .process .recoveries ≡ processAt g (takerOf s) .recoveries + bitOf (isRecover s)
 unfolding isRecover eventOf takerOf onRecover quiet recovered
@@ -136,8 +136,12 @@ module _ (g : Group) (l : List ℕ) (s : Step) (i : ℕ) (sized : Sized g) (low 
   still-adds : (c : Course) → settled g l c .group ≡ g → settled g l c .says .applied ≡ false → Adds c
   unfolding Adds
   still-adds c e f t =
-      omega (arith, ap (λ (h : Group). processAt h i .recoveries) e,
-      ap (adds (isRecover s) (eqb (takerOf s) i)) f, adds-none (isRecover s) (eqb (takerOf s) i))
+      omega (
+        arith,
+        ap (λ (h : Group). processAt h i .recoveries) e,
+        ap (adds (isRecover s) (eqb (takerOf s) i)) f,
+        adds-none (isRecover s) (eqb (takerOf s) i),
+      )
 
   step-adds : Adds (course g l s)
   unfolding settled

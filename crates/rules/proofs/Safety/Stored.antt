@@ -20,7 +20,7 @@ use Rattle.rules.specs.declared.course.Course.{Course}
 use Rattle.rules.specs.Limits.{greatestSize}
 use Rattle.rules.specs.Records.{Stored, stored, processAt, withProcess, Sized}
 use Rattle.rules.specs.Start.{fresh, begun}
-use Rattle.rules.specs.Events.{takes, enters, joinsEstimates, joinsSuspicions, decides, secondPhase, marks, paused, crashed, recovered, quiet, changed, jumpsIf, jumps, relaysIf, relays, decidesIf, decidesAt, goesToPhase2, goesToPhase2If, toPhase2, adoptsIf, adopts, entersNextIf, entersNextAt, onE, onS, onF, onDecision, onSuspect, onPause, onCrash, onRecover, cutIf}
+use Rattle.rules.specs.Events.{paused, crashed, recovered, quiet, onPause, onCrash, onRecover, cutIf}
 use Rattle.rules.specs.Steps.{takerOf, isCut, entryIn, eventOf, numbersOf, roundOf, delivers, slotOf}
 use Rattle.rules.specs.Idle.{pastFor, idle, idleE, idleS, idleF}
 use Rattle.rules.specs.Refusals.{isRecover, down, maySuspect, impossible, refusal, strange, late, unsent, misnamed, recoversPast, entersPast}
@@ -32,14 +32,14 @@ use Rattle.rules.proofs.GroupLaws.{process-put, process-kept, started-p
 use Rattle.rules.proofs.SoundLaws.{Passed, refusal-passed, taker-in, sound-facts}
 use Rattle.rules.proofs.Safety.Basics.{Basic, basic, basic-start, basic-next, start-is}
 use Rattle.rules.proofs.Safety.Cases.{never, throughout, put-by, process-by}
-use Rattle.rules.proofs.Safety.Fields.{keeps-first, event-keeps}
+use Rattle.rules.proofs.Safety.Fields.{event-keeps}
 use Rattle.rules.proofs.Safety.Recoveries.{backAs, recover-leaves}
 
 -- ---- first values
 
 event-first : (g : Group) (l : List ℕ) (s : Step) → eventOf g l s .process .first ≡ processAt g (takerOf s) .first
 unfolding recovered
-event-first g l s = event-keeps (λ (p : Process). p .first) keeps-first g l s (λ e. refl)
+event-first g l s = event-keeps (λ (x : ℕ × ℕ). x .0) g l s (λ e. refl)
 
 crashed-first : (v : ℕ) (p : Process) → p .first ≡ v → crashed p .first ≡ v
 unfolding crashed

@@ -6,7 +6,6 @@ use borrow.Author.Tests.{lt-ltb, le-ltb}
 use native.Mathlib.Omega.{arith}
 use Prim.Native.Nat.{_+_}
 use mathlib.Core.Path.{ap, _∙_}
-use borrow.Author.Needs.{needs}
 use Rattle.rules.proofs.process.Process.course_recover.Statement.{statement}
 use Rattle.rules.proofs.process.Process.course_recover.Tie as tie
 
