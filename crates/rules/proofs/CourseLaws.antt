@@ -18,7 +18,7 @@ use Rattle.rules.specs.declared.step.Step.the-variants.{DeliverE, Delive
 use Rattle.rules.specs.declared.course.Address.the-variants.{Misses, At}
 use Rattle.rules.specs.declared.course.Course.{Course}
 use Rattle.rules.specs.declared.course.Course.the-variants.{Idles, Refuses, Takes}
-use Rattle.rules.specs.Limits.{greatestSize, lastRound, mostRecoveries, storeLength, among}
+use Rattle.rules.specs.Limits.{greatestSize, lastRound, tooMany, storeLength, among}
 use Rattle.rules.specs.Records.{processAt, withProcess}
 use Rattle.rules.specs.Store.{proposerOf, placeOf, handOver, turned}
 use Rattle.rules.specs.Answers.{outcome, refused, saysApplied, saysIdle}
@@ -135,9 +135,9 @@ suspect-course g l i c z = go (maySuspect (processAt g i)) refl
 recover-course : (g : Group) (l : List ℕ) (i : ℕ) → refusal g l (Recover i) ≡ rest g l (Recover i)
     → orUp (processAt g i .up) i (processAt g i) ≡ course g l (Recover i)
 unfolding impossible recoversPast entersPast row orIdle idle isCut takerOf eventOf cutIf
-recover-course g l i z = go (processAt g i .up) (ltb mostRecoveries (processAt g i .recoveries + 1)) refl refl
+recover-course g l i z = go (processAt g i .up) (tooMany (processAt g i .recoveries)) refl refl
   where
-    go : (u m : Bool) → processAt g i .up ≡ u → ltb mostRecoveries (processAt g i .recoveries + 1) ≡ m
+    go : (u m : Bool) → processAt g i .up ≡ u → tooMany (processAt g i .recoveries) ≡ m
         → orUp (processAt g i .up) i (processAt g i) ≡ course g l (Recover i)
     go true m e f = sym (up-yes i (processAt g i) e) ∙ refuses g l (Recover i) (z ∙ rw e) (λ a. omega arith)
     go false true e f = sym (up-many i (processAt g i) e f) ∙ refuses g l (Recover i) (z ∙ rw (e, f)) (λ a. omega arith)

@@ -1,12 +1,12 @@
 -- How the tests of a step pick its course. Assumes nothing.
 use mathlib.Core.Path.{_≡_}
 use mathlib.Core.Bool.{Bool, true, false}
-use Prim.Native.Nat.{ℕ, _+_}
+use Prim.Native.Nat.{ℕ}
 use lib.Dec.{ltb}
 use Rattle.rules.specs.declared.process.Process.{Process}
 use Rattle.rules.specs.declared.process.Next.{Next}
 use Rattle.rules.specs.declared.course.Course.the-variants.{Refuses, Takes}
-use Rattle.rules.specs.Limits.{lastRound, mostRecoveries}
+use Rattle.rules.specs.Limits.{lastRound, tooMany}
 use Rattle.rules.specs.Events.{cutIf, onSuspect, onRecover}
 use Rattle.rules.specs.Step.{idles, orIdle}
 use Rattle.rules.specs.Parts.{orPast, unlessPast, orImpossible, unlessMany, orUp}
@@ -50,10 +50,10 @@ module _ (i : ℕ) (p : Process) where
   unfolding orUp
   up-yes e = rw e
 
-  pub up-many : {b : Bool} → b ≡ false → ltb mostRecoveries (p .recoveries + 1) ≡ true → Refuses 13 ≡ orUp b i p
+  pub up-many : {b : Bool} → b ≡ false → tooMany (p .recoveries) ≡ true → Refuses 13 ≡ orUp b i p
   unfolding orUp unlessMany
   up-many e t = rw (e, t)
 
-  pub up-no : {b : Bool} → b ≡ false → ltb mostRecoveries (p .recoveries + 1) ≡ false → Takes i (onRecover p) ≡ orUp b i p
+  pub up-no : {b : Bool} → b ≡ false → tooMany (p .recoveries) ≡ false → Takes i (onRecover p) ≡ orUp b i p
   unfolding orUp unlessMany
   up-no e t = rw (e, t)

@@ -1,7 +1,7 @@
 -- Document 01, "Numbers": the limits, the majority, the coordinator. Assumes nothing.
 use mathlib.Core.Bool.{Bool, _&&_}
 use Prim.Native.Nat.{ℕ, _+_, _/_, _%_}
-use lib.Dec.{leb}
+use lib.Dec.{leb, ltb}
 
 -- "Processes 1 to n, n from 1 to 16."
 abbrev pub greatestSize : ℕ
@@ -15,9 +15,13 @@ among n m = leb 1 m && leb m n
 abbrev pub lastRound : ℕ
 lastRound = 63
 
--- Request 2026-03: the most recoveries that a process can have, "where a recover would exceed 255"
+-- Request 2026-03: the most recoveries that a process can have
 abbrev pub mostRecoveries : ℕ
 mostRecoveries = 255
+
+-- "where a recover would exceed 255": one more than k is too many
+abbrev pub tooMany : ℕ → Bool
+tooMany k = ltb mostRecoveries (k + 1)
 
 -- "Majority is floor(n/2) + 1"
 abbrev pub majority : ℕ → ℕ

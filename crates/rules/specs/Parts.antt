@@ -2,7 +2,7 @@
 use mathlib.Core.Path.{_≡_}
 use mathlib.Core.Bool.{Bool, true, false, _&&_, not}
 use mathlib.Core.List.{List}
-use Prim.Native.Nat.{ℕ, zero, suc, _+_, _≤_}
+use Prim.Native.Nat.{ℕ, zero, suc, _≤_}
 use lib.Dec.{eqb, ltb}
 use lib.ListN.{length}
 use Rattle.rules.specs.declared.group.Group.{Group}
@@ -11,10 +11,10 @@ use Rattle.rules.specs.declared.process.Next.{Next}
 use Rattle.rules.specs.declared.course.Address.{Address}
 use Rattle.rules.specs.declared.course.Address.the-variants.{Misses, At}
 use Rattle.rules.specs.declared.course.Course.{Course}
-use Rattle.rules.specs.declared.course.Course.the-variants.{Idles, Refuses, Takes}
+use Rattle.rules.specs.declared.course.Course.the-variants.{Refuses, Takes}
 use Rattle.rules.specs.declared.step.Step.{Step}
 use Rattle.rules.specs.declared.step.Step.the-variants.{DeliverE, DeliverS, DeliverF, DeliverDecision, Suspect, Pause, Crash, Recover}
-use Rattle.rules.specs.Limits.{greatestSize, lastRound, mostRecoveries, storeLength, among}
+use Rattle.rules.specs.Limits.{greatestSize, lastRound, tooMany, storeLength, among}
 use Rattle.rules.specs.Store.{proposerOf, valueOf, messageRound}
 use Rattle.rules.specs.Events.{onE, onS, onF, onDecision, onSuspect, onPause, onCrash, onRecover, cutIf}
 use Rattle.rules.specs.Steps.{takerOf, numbersOf, delivers, slotOf}
@@ -61,7 +61,7 @@ unlessMany false i p = Takes i (onRecover p)
 
 unfoldable pub orUp : Bool → ℕ → Process → Course
 orUp true i p = Refuses 7
-orUp false i p = unlessMany (ltb mostRecoveries (p .recoveries + 1)) i p
+orUp false i p = unlessMany (tooMany (p .recoveries)) i p
 
 unfoldable pub lastCourse : ℕ → ℕ → ℕ → Process → Step → Course
 lastCourse n i e p (DeliverE to from r c) = orIdle (idleE p from r) c i p (onE n i from r (proposerOf e) (valueOf e) p)

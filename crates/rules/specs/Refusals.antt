@@ -1,14 +1,14 @@
 -- Document 01, "Refusals": the table's rows for start and step, in their order, with the row of request 2026-03. Assumes nothing.
 use mathlib.Core.Bool.{Bool, true, false, _&&_, _||_, not}
 use mathlib.Core.List.{List, [], _∷_}
-use Prim.Native.Nat.{ℕ, zero, suc, _+_}
+use Prim.Native.Nat.{ℕ, zero, suc}
 use lib.Dec.{eqb, leb, ltb}
 use lib.ListN.{length}
 use Rattle.rules.specs.declared.group.Group.{Group}
 use Rattle.rules.specs.declared.process.Process.{Process}
 use Rattle.rules.specs.declared.step.Step.{Step}
 use Rattle.rules.specs.declared.step.Step.the-variants.{DeliverE, DeliverS, DeliverF, DeliverDecision, Suspect, Pause, Crash, Recover}
-use Rattle.rules.specs.Limits.{greatestSize, lastRound, mostRecoveries, storeLength, among}
+use Rattle.rules.specs.Limits.{greatestSize, lastRound, tooMany, storeLength, among}
 use Rattle.rules.specs.Tally.{within}
 use Rattle.rules.specs.Records.{processAt}
 use Rattle.rules.specs.Store.{proposerOf}
@@ -102,7 +102,7 @@ recoversPast g (DeliverDecision i j c) = false
 recoversPast g (Suspect i c) = false
 recoversPast g (Pause i) = false
 recoversPast g (Crash i) = false
-recoversPast g (Recover i) = ltb mostRecoveries (processAt g i .recoveries + 1)
+recoversPast g (Recover i) = tooMany (processAt g i .recoveries)
 
 -- 8: "the step would enter round 64". Only an F that is not idle enters a next round
 unfoldable pub entersPast : Group → List ℕ → Step → Bool

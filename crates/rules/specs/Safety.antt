@@ -5,13 +5,13 @@ use mathlib.Core.List.{List, [], _∷_}
 use mathlib.Core.Logic.{_↔_, _≢_}
 use Prim.Native.Nat.{ℕ, _+_, _-_, _^_, _≤_, _<_}
 use lib.Count.{ones}
-use lib.Dec.{eqb, ltb}
+use lib.Dec.{eqb}
 use lib.ListN.{length, getD}
 use Rattle.rules.specs.declared.process.Process.{Process}
 use Rattle.rules.specs.declared.process.Message.the-variants.{E, S, F, Decision}
 use Rattle.rules.specs.declared.step.Step.{Step}
 use Rattle.rules.specs.declared.step.Step.the-variants.{DeliverE, DeliverS, DeliverF, DeliverDecision, Suspect, Pause, Crash, Recover}
-use Rattle.rules.specs.Limits.{greatestSize, mostRecoveries, storeLength, majority}
+use Rattle.rules.specs.Limits.{greatestSize, mostRecoveries, tooMany, storeLength, majority}
 use Rattle.rules.specs.Tally.{holds, count, bitOf}
 use Rattle.rules.specs.Records.{Stored, stored, processAt, blank}
 use Rattle.rules.specs.Store.{slot, kindE, kindS, kindF, proposerOf, sentIn}
@@ -93,7 +93,7 @@ cut (Pause i) = Pause i
 cut (Crash i) = Crash i
 cut (Recover i) = Recover i
 
--- a stored record with "the one that recover itself adds"; where that would be too many, the recover is refused and the record as it was
+-- a stored record with "the one that recover itself adds"; where that would be too many, the recover is refused and the record stays as it was
 unfoldable pub backUnless : Bool → Stored → Stored
 backUnless true t = t
 backUnless false t =
@@ -110,7 +110,7 @@ backUnless false t =
     }
 
 unfoldable pub back : Stored → Stored
-back t = backUnless (ltb mostRecoveries (t .recoveries + 1)) t
+back t = backUnless (tooMany (t .recoveries)) t
 
 -- recovered, it has the stored record that it had when it went down, "apart from the one that recover itself adds": the state after ss is the one right after it did
 abbrev pub Recovery : Type 0

@@ -5,7 +5,7 @@ use mathlib.Core.List.{List, [], _∷_}
 use mathlib.Core.Logic.{_↔_}
 use Prim.Native.Nat.{ℕ, _+_, _≤_}
 use native.Mathlib.Omega.{arith}
-use lib.Dec.{eqb, ltb}
+use lib.Dec.{eqb}
 use lib.ListN.{length}
 use borrow.Author.Tests.{eq-eqb, ne-eqb, le-ltb, lt-ltb, ltb-true, ltb-false}
 use Rattle.rules.specs.declared.group.Group.{Group}
@@ -15,7 +15,7 @@ use Rattle.rules.specs.declared.step.Step.{Step}
 use Rattle.rules.specs.declared.step.Step.the-variants.{DeliverE, DeliverS, DeliverF, DeliverDecision, Suspect, Pause, Crash, Recover}
 use Rattle.rules.specs.declared.course.Course.{Course}
 use Rattle.rules.specs.declared.course.Course.the-variants.{Idles, Refuses, Takes}
-use Rattle.rules.specs.Limits.{greatestSize, mostRecoveries, storeLength}
+use Rattle.rules.specs.Limits.{greatestSize, mostRecoveries, tooMany, storeLength}
 use Rattle.rules.specs.Tally.{bitOf}
 use Rattle.rules.specs.Records.{processAt, Sized}
 use Rattle.rules.specs.Start.{fresh, begun}
@@ -37,7 +37,7 @@ use Rattle.rules.proofs.Safety.Fields.{event-keeps}
 
 -- row 13 is all that is left
 pub recover-rows : (vs : List ℕ) (a : State) (i : ℕ) → Basic vs a → Of vs i → processOf a i .up ≡ false
-    → refusal (a .group) (a .store) (Recover i) ≡ row (ltb mostRecoveries (processOf a i .recoveries + 1)) 13 0
+    → refusal (a .group) (a .store) (Recover i) ≡ row (tooMany (processOf a i .recoveries)) 13 0
 unfolding refusal row short strange every numbersOf late roundOf down isRecover takerOf unsent delivers misnamed impossible recoversPast entersPast
 recover-rows vs a i h o d =
     rw (le-ltb (length (a .store)) storeLength (h .long), h .sound, among-in (a .group .n) i (o .low) (omega (arith, h .size, o .high)), d)
@@ -54,11 +54,11 @@ leaves-by g l i sized lo hi true = refl
 leaves-by g l i sized lo hi false = process-put g i (recovered (processAt g i)) sized lo hi
 
 pub recover-leaves : (vs : List ℕ) (a : State) (i : ℕ) → Basic vs a → Of vs i → i ≤ greatestSize → processOf a i .up ≡ false
-    → processOf (next a (Recover i)) i ≡ backAs (ltb mostRecoveries (processOf a i .recoveries + 1)) (processOf a i)
+    → processOf (next a (Recover i)) i ≡ backAs (tooMany (processOf a i .recoveries)) (processOf a i)
 unfolding next stepped course
 recover-leaves vs a i h o hi d =
     ap (λ (k : ℕ). processAt (settled (a .group) (a .store) (unlessRefused k (a .group) (a .store) (Recover i)) .group) i) (recover-rows vs a i h o d)
-    ∙ leaves-by (a .group) (a .store) i (h .sized) (o .low) hi (ltb mostRecoveries (processOf a i .recoveries + 1))
+    ∙ leaves-by (a .group) (a .store) i (h .sized) (o .low) hi (tooMany (processOf a i .recoveries))
 
 -- ---- the number counts the applied recovers
 
@@ -214,7 +214,7 @@ pub refusal-thirteen : RefusalThirteen
 refusal-thirteen vs l ss b i o d =
     let k = processOf (at vs l ss) i .recoveries in
     let rows = recover-rows vs (at vs l ss) i (basic vs l ss b) o d in
-    let thirteen = row-thirteen (ltb mostRecoveries (k + 1)) in
+    let thirteen = row-thirteen (tooMany k) in
     let counted = recoveries-counted vs l ss b i o in
     let fit = recoveries-fit vs l ss b i o in (
       λ e. omega (arith, ltb-true mostRecoveries (k + 1) (thirteen .0 (sym rows ∙ e)), counted, fit),

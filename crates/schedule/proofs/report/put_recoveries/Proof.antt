@@ -1,7 +1,5 @@
 -- `report::put_recoveries` meets its contract: its two pieces are one piece. Assumes nothing.
-use Prim.Native.Nat.{_≤_}
 use native.Mathlib.Omega.{arith}
-use Rattle.schedule.specs.Number.{most}
 use Rattle.schedule.specs.Report.{space, recoveriesEnd}
 use Rattle.schedule.proofs.PutLaws.{wrote-more, room-after}
 use Rattle.schedule.proofs.ReportLaws.{field-long}
@@ -22,10 +20,7 @@ slice-aggregate-put-bytes : tie.Need-slice-aggregate-put-bytes
 slice-aggregate-put-bytes c = search needs
 
 put-bytes-requires : tie.Need-put-bytes-requires
-put-bytes-requires c κs =
-    let p = c .before .before .before .before .before .before .before .before .before .args .p in
-    let small : p .recoveries ≤ most = search needs in
-    room-after 1 (c .before .before .before .before .put-field .ensures) (field-long space (p .recoveries) small) (omega arith)
+put-bytes-requires c κs = room-after 1 (c .before .before .before .before .put-field .ensures) (field-long space _ (search needs)) (omega arith)
 
 same-length : tie.Need-same-length
 same-length c = search needs
