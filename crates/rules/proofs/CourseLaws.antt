@@ -1,4 +1,4 @@
--- The refusals of a step, once 11 and the group's 2 are ruled out, as the parts that the code tests, and the course that follows. Assumes nothing.
+-- The refusals of a step, once 11, the short 14 and the group's 2 are ruled out, as the parts that the code tests, and the course that follows. Assumes nothing.
 use mathlib.Core.Path.{_≡_, refl, sym, ap, ap₂, subst, _∙_}
 use mathlib.Core.Bool.{Bool, true, false, _&&_, not}
 use mathlib.Core.List.{List}
@@ -6,7 +6,7 @@ use Prim.Native.Nat.{ℕ, zero, suc, _+_, _≤_, _<_}
 use native.Mathlib.Nat.{le-trans}
 use native.Mathlib.Omega.{arith}
 use lib.Dec.{eqb, ltb}
-use lib.ListN.{getD}
+use lib.ListN.{length, getD}
 use borrow.Author.Tests.{le-ltb}
 use Rattle.rules.specs.declared.group.Group.{Group}
 use Rattle.rules.specs.declared.process.Process.{Process}
@@ -19,52 +19,59 @@ use Rattle.rules.specs.declared.course.Address.the-variants.{Misses, At}
 use Rattle.rules.specs.declared.course.Course.{Course}
 use Rattle.rules.specs.declared.course.Course.the-variants.{Idles, Refuses, Takes}
 use Rattle.rules.specs.Limits.{greatestSize, lastRound, tooMany, storeLength, among}
-use Rattle.rules.specs.Records.{processAt, withProcess}
+use Rattle.rules.specs.Records.{processAt, withProcess, withDepth}
 use Rattle.rules.specs.Store.{proposerOf, placeOf, handOver, turned}
-use Rattle.rules.specs.Answers.{outcome, refused, saysApplied, saysIdle}
+use Rattle.rules.specs.Answers.{saysApplied, saysIdle, saysRefused}
 use Rattle.rules.specs.Events.{cutIf}
 use Rattle.rules.specs.Steps.{takerOf, numbersOf, roundOf, delivers, slotOf, isCut, entryIn, eventOf}
 use Rattle.rules.specs.Idle.{idle}
-use Rattle.rules.specs.Refusals.{row, every, short, damaged, strange, late, isRecover, down, unsent, misnamed, maySuspect, impossible, recoversPast, entersPast, refusal}
-use Rattle.rules.specs.Step.{orIdle, unlessRefused, course, handOvers, sentBy, decidesNow, settled, stepped}
-use Rattle.rules.specs.Parts.{numberRows, unlessMissed, addressOf, heldRows, unlessPast, orPast, orImpossible, orUp, lastCourse, unlessHeld, heldCourse, Ready, Numbered, Handable}
-use Rattle.rules.proofs.RowLaws.{orElse, number-else, held-else, delivered-zero, owned-zero, held-zero}
+use Rattle.rules.specs.Refusals.{row, every, short, strange, late, isRecover, down, unsent, misnamed, maySuspect, impossible, recoversPast, entersPast, refusalBy}
+use Rattle.rules.specs.Step.{orIdle, unlessRefused, handOvers, sentBy, decidesNow}
+use Rattle.rules.specs.Step as base
+use Rattle.rules.specs.Depths.{depthIn, raises, raised, depthAfter, dated, datedBoth, damaged, tooDeep, refusal, outcome, course, deepened, datedBy, settled, stepped}
+use Rattle.rules.specs.Parts.{numberRows, unlessMissed, addressOf, heldRows, unlessPast, orPast, orImpossible, orUp, lastCourse, unlessHeld, heldCourse, Ready, Numbered, Ranged, Dated, Handable}
+use Rattle.rules.proofs.RowLaws.{orElse, number-else, held-else, Delivered, delivered-zero, owned-zero, held-zero, among-in}
 use Rattle.rules.proofs.StepLaws.{up-yes, up-many, up-no}
-use Rattle.rules.proofs.SoundLaws.{sound-facts, Fine, course-fine}
+use Rattle.rules.proofs.SoundLaws.{sound-facts, Taking}
+use Rattle.rules.proofs.DepthLaws.{deep-sound, course-takes}
 use Rattle.rules.specs.Tally.{bitOf}
 
 -- the rows that are left to every step: 7, 13 and 8
 abbrev rest : Group → List ℕ → Step → ℕ
 rest g l s = row (impossible g s) 7 (row (recoversPast g s) 13 (row (entersPast g l s) 8 0))
 
--- rows 11 and 2 fall away
-ready : (g : Group) (l : List ℕ) (s : Step) → Ready g l
-    → refusal g l s ≡ row (strange g s) 3 (row (late s) 4 (row (down g s) 5 (row (unsent l s) 6 (row (misnamed g l s) 2 (rest g l s)))))
-unfolding refusal row short
-ready g l s h = rw (le-ltb _ storeLength (h .long), h .sound)
+-- rows 11, 14 and 2 fall away
+ready : (g : Group) (l d : List ℕ) (s : Step) → Ready g l d
+    → refusal g l d s ≡ row (strange g s) 3 (row (late s) 4 (row (down g s) 5 (row (unsent l s) 6 (row (misnamed g l s) 2 (row (tooDeep d s) 14 (rest g l s))))))
+unfolding refusal refusalBy row short
+ready g l d s h = rw (le-ltb (length l) storeLength (h .long), le-ltb (length d) storeLength (h .deep-long), h .sound)
 
-first-row : (g : Group) (l : List ℕ) (s : Step) → short l ≡ true → refusal g l s ≡ 11
-unfolding refusal row
-first-row g l s h = rw h
+first-row : (g : Group) (l d : List ℕ) (s : Step) → short l ≡ true → refusal g l d s ≡ 11
+unfolding refusal refusalBy row
+first-row g l d s h = rw h
 
-second-row : (g : Group) (l : List ℕ) (s : Step) → short l ≡ false → damaged g ≡ true → refusal g l s ≡ 2
-unfolding refusal row
-second-row g l s h d = rw (h, d)
+second-row : (g : Group) (l d : List ℕ) (s : Step) → short l ≡ false → short d ≡ true → refusal g l d s ≡ 14
+unfolding refusal refusalBy row
+second-row g l d s h z = rw (h, z)
+
+third-row : (g : Group) (l d : List ℕ) (s : Step) → short l ≡ false → short d ≡ false → damaged g ≡ true → refusal g l d s ≡ 2
+unfolding refusal refusalBy row
+third-row g l d s h z y = rw (h, z, y)
 
 -- ---- the course that a refusal's number gives
 
-pub refuses : (g : Group) (l : List ℕ) (s : Step) {k : ℕ} → refusal g l s ≡ k → ¬ (k ≡ 0) → Refuses k ≡ course g l s
+pub refuses : (g : Group) (l d : List ℕ) (s : Step) {k : ℕ} → refusal g l d s ≡ k → ¬ (k ≡ 0) → Refuses k ≡ course g l d s
 unfolding course unlessRefused
-refuses g l s {k} e h = go k e h
+refuses g l d s {k} e h = go k e h
   where
-    go : (m : ℕ) → refusal g l s ≡ m → ¬ (m ≡ 0) → Refuses m ≡ course g l s
+    go : (m : ℕ) → refusal g l d s ≡ m → ¬ (m ≡ 0) → Refuses m ≡ course g l d s
     go zero e h = absurd (h refl)
     go (suc m) e h = rw e
 
-pub passes : (g : Group) (l : List ℕ) (s : Step) → refusal g l s ≡ 0
-    → orIdle (idle g s) (isCut s) (takerOf s) (processAt g (takerOf s)) (eventOf g l s) ≡ course g l s
+pub passes : (g : Group) (l d : List ℕ) (s : Step) → refusal g l d s ≡ 0
+    → orIdle (idle g s) (isCut s) (takerOf s) (processAt g (takerOf s)) (eventOf g l s) ≡ course g l d s
 unfolding course unlessRefused
-passes g l s e = rw e
+passes g l d s e = rw e
 
 -- a number that is not 0 stands for what comes after it too
 else-first : {k : ℕ} (part after : ℕ) → part ≡ k → ¬ (k ≡ 0) → orElse part after ≡ k
@@ -81,82 +88,82 @@ else-next part after e = rw e
 
 -- ---- the rows as the code tests them
 
-module _ (g : Group) (l : List ℕ) (s : Step) (h : Ready g l) where
-  -- those of the step's numbers, then those of the record and the entry, then 7, 13 and 8
-  parts-refusal : refusal g l s
-      ≡ orElse (numberRows (g .n) s) (orElse (heldRows (g .n) (processAt g (takerOf s) .up) (entryIn l s) (delivers s) (isRecover s)) (rest g l s))
-  unfolding strange down unsent misnamed
+module _ (g : Group) (l d : List ℕ) (s : Step) (h : Ready g l d) where
+  -- those of the step's numbers, then those of the record, the entry and its depth, then 7, 13 and 8
+  parts-refusal : refusal g l d s
+      ≡ orElse (numberRows (g .n) s) (orElse (heldRows (g .n) (processAt g (takerOf s) .up) (entryIn l s) (depthIn d s) (delivers s) (isRecover s)) (rest g l s))
+  unfolding strange down unsent misnamed tooDeep
   parts-refusal =
-      ready g l s h
+      ready g l d s h
       ∙ ap (λ (k : ℕ). row (not (every (among (g .n)) (numbersOf s))) 3 (row (late s) 4 k))
-      (held-else (g .n) (processAt g (takerOf s) .up) (entryIn l s) (delivers s) (isRecover s) (rest g l s))
-      ∙ number-else (g .n) s (orElse (heldRows (g .n) (processAt g (takerOf s) .up) (entryIn l s) (delivers s) (isRecover s)) (rest g l s))
+      (held-else (g .n) (processAt g (takerOf s) .up) (entryIn l s) (depthIn d s) (delivers s) (isRecover s) (rest g l s))
+      ∙ number-else (g .n) s (orElse (heldRows (g .n) (processAt g (takerOf s) .up) (entryIn l s) (depthIn d s) (delivers s) (isRecover s)) (rest g l s))
 
   -- refused by 3 or 4
-  pub numbers-refuse : {k : ℕ} → numberRows (g .n) s ≡ k → ¬ (k ≡ 0) → Refuses k ≡ course g l s
-  numbers-refuse a b = refuses g l s (parts-refusal ∙ else-first _ _ a b) b
+  pub numbers-refuse : {k : ℕ} → numberRows (g .n) s ≡ k → ¬ (k ≡ 0) → Refuses k ≡ course g l d s
+  numbers-refuse a b = refuses g l d s (parts-refusal ∙ else-first _ _ a b) b
 
-  -- refused by 5, 6 or the entry's 2
-  held-refuse : {k : ℕ} → numberRows (g .n) s ≡ 0 → heldRows (g .n) (processAt g (takerOf s) .up) (entryIn l s) (delivers s) (isRecover s) ≡ k
-      → ¬ (k ≡ 0) → Refuses k ≡ course g l s
-  held-refuse z a b = refuses g l s (parts-refusal ∙ else-next _ _ z ∙ else-first _ _ a b) b
+  -- refused by 5, 6, the entry's 2 or the message's 14
+  held-refuse : {k : ℕ} → numberRows (g .n) s ≡ 0 → heldRows (g .n) (processAt g (takerOf s) .up) (entryIn l s) (depthIn d s) (delivers s) (isRecover s) ≡ k
+      → ¬ (k ≡ 0) → Refuses k ≡ course g l d s
+  held-refuse z a b = refuses g l d s (parts-refusal ∙ else-next _ _ z ∙ else-first _ _ a b) b
 
   -- refused by 7, 13 or 8, or not
-  held-pass : numberRows (g .n) s ≡ 0 → heldRows (g .n) (processAt g (takerOf s) .up) (entryIn l s) (delivers s) (isRecover s) ≡ 0
-      → refusal g l s ≡ rest g l s
+  held-pass : numberRows (g .n) s ≡ 0 → heldRows (g .n) (processAt g (takerOf s) .up) (entryIn l s) (depthIn d s) (delivers s) (isRecover s) ≡ 0
+      → refusal g l d s ≡ rest g l s
   held-pass z y = parts-refusal ∙ else-next _ _ z ∙ else-next _ _ y
 
--- ---- the course of each kind, once 3 to the entry's 2 are ruled out
+-- ---- the course of each kind, once 3 to the message's 14 are ruled out
 
 -- an F: idle, refused by 8, or taken
-past-course : (g : Group) (l : List ℕ) (s : Step)
-    → refusal g l s ≡ row (not (idle g s) && ltb lastRound (eventOf g l s .process .round)) 8 0
-    → orPast (idle g s) (isCut s) (takerOf s) (processAt g (takerOf s)) (eventOf g l s) ≡ course g l s
+past-course : (g : Group) (l d : List ℕ) (s : Step)
+    → refusal g l d s ≡ row (not (idle g s) && ltb lastRound (eventOf g l s .process .round)) 8 0
+    → orPast (idle g s) (isCut s) (takerOf s) (processAt g (takerOf s)) (eventOf g l s) ≡ course g l d s
 unfolding orPast unlessPast orIdle row
-past-course g l s z = go (idle g s) (ltb lastRound (eventOf g l s .process .round)) refl refl
+past-course g l d s z = go (idle g s) (ltb lastRound (eventOf g l s .process .round)) refl refl
   where
     go : (b t : Bool) → idle g s ≡ b → ltb lastRound (eventOf g l s .process .round) ≡ t
-        → orPast (idle g s) (isCut s) (takerOf s) (processAt g (takerOf s)) (eventOf g l s) ≡ course g l s
-    go true t eb et = rw eb (rw eb at (passes g l s (z ∙ rw eb)))
-    go false true eb et = rw (eb, et) (refuses g l s (z ∙ rw (eb, et)) (λ a. omega arith))
-    go false false eb et = rw (eb, et) (rw eb at (passes g l s (z ∙ rw (eb, et))))
+        → orPast (idle g s) (isCut s) (takerOf s) (processAt g (takerOf s)) (eventOf g l s) ≡ course g l d s
+    go true t eb et = rw eb (rw eb at (passes g l d s (z ∙ rw eb)))
+    go false true eb et = rw (eb, et) (refuses g l d s (z ∙ rw (eb, et)) (λ a. omega arith))
+    go false false eb et = rw (eb, et) (rw eb at (passes g l d s (z ∙ rw (eb, et))))
 
 -- a suspicion: taken where it is possible, refused by 7 where it is not
-suspect-course : (g : Group) (l : List ℕ) (i : ℕ) (c : Bool) → refusal g l (Suspect i c) ≡ rest g l (Suspect i c)
-    → orImpossible (maySuspect (processAt g i)) c i (processAt g i) ≡ course g l (Suspect i c)
+suspect-course : (g : Group) (l d : List ℕ) (i : ℕ) (c : Bool) → refusal g l d (Suspect i c) ≡ rest g l (Suspect i c)
+    → orImpossible (maySuspect (processAt g i)) c i (processAt g i) ≡ course g l d (Suspect i c)
 unfolding impossible recoversPast entersPast row orIdle idle isCut takerOf eventOf orImpossible
-suspect-course g l i c z = go (maySuspect (processAt g i)) refl
+suspect-course g l d i c z = go (maySuspect (processAt g i)) refl
   where
-    go : (m : Bool) → maySuspect (processAt g i) ≡ m → orImpossible (maySuspect (processAt g i)) c i (processAt g i) ≡ course g l (Suspect i c)
-    go true e = rw e (passes g l (Suspect i c) (z ∙ rw e))
-    go false e = rw e (refuses g l (Suspect i c) (z ∙ rw e) (λ a. omega arith))
+    go : (m : Bool) → maySuspect (processAt g i) ≡ m → orImpossible (maySuspect (processAt g i)) c i (processAt g i) ≡ course g l d (Suspect i c)
+    go true e = rw e (passes g l d (Suspect i c) (z ∙ rw e))
+    go false e = rw e (refuses g l d (Suspect i c) (z ∙ rw e) (λ a. omega arith))
 
 -- a recovery: refused by 7 where the process is up and by 13 where it would be too many, else taken
-recover-course : (g : Group) (l : List ℕ) (i : ℕ) → refusal g l (Recover i) ≡ rest g l (Recover i)
-    → orUp (processAt g i .up) i (processAt g i) ≡ course g l (Recover i)
+recover-course : (g : Group) (l d : List ℕ) (i : ℕ) → refusal g l d (Recover i) ≡ rest g l (Recover i)
+    → orUp (processAt g i .up) i (processAt g i) ≡ course g l d (Recover i)
 unfolding impossible recoversPast entersPast row orIdle idle isCut takerOf eventOf cutIf
-recover-course g l i z = go (processAt g i .up) (tooMany (processAt g i .recoveries)) refl refl
+recover-course g l d i z = go (processAt g i .up) (tooMany (processAt g i .recoveries)) refl refl
   where
     go : (u m : Bool) → processAt g i .up ≡ u → tooMany (processAt g i .recoveries) ≡ m
-        → orUp (processAt g i .up) i (processAt g i) ≡ course g l (Recover i)
-    go true m e f = sym (up-yes i (processAt g i) e) ∙ refuses g l (Recover i) (z ∙ rw e) (λ a. omega arith)
-    go false true e f = sym (up-many i (processAt g i) e f) ∙ refuses g l (Recover i) (z ∙ rw (e, f)) (λ a. omega arith)
-    go false false e f = sym (up-no i (processAt g i) e f) ∙ passes g l (Recover i) (z ∙ rw (e, f))
+        → orUp (processAt g i .up) i (processAt g i) ≡ course g l d (Recover i)
+    go true m e f = sym (up-yes i (processAt g i) e) ∙ refuses g l d (Recover i) (z ∙ rw e) (λ a. omega arith)
+    go false true e f = sym (up-many i (processAt g i) e f) ∙ refuses g l d (Recover i) (z ∙ rw (e, f)) (λ a. omega arith)
+    go false false e f = sym (up-no i (processAt g i) e f) ∙ passes g l d (Recover i) (z ∙ rw (e, f))
 
 -- every kind
-last-course : (g : Group) (l : List ℕ) (s : Step) → refusal g l s ≡ rest g l s
-    → lastCourse (g .n) (takerOf s) (entryIn l s) (processAt g (takerOf s)) s ≡ course g l s
+last-course : (g : Group) (l d : List ℕ) (s : Step) → refusal g l d s ≡ rest g l s
+    → lastCourse (g .n) (takerOf s) (entryIn l s) (processAt g (takerOf s)) s ≡ course g l d s
 unfolding lastCourse impossible recoversPast entersPast row orIdle idle isCut takerOf eventOf cutIf
-last-course g l (DeliverE i j r c) z = passes g l (DeliverE i j r c) z
-last-course g l (DeliverS i j r c) z = passes g l (DeliverS i j r c) z
-last-course g l (DeliverF i j r c) z = past-course g l (DeliverF i j r c) z
-last-course g l (DeliverDecision i j c) z = passes g l (DeliverDecision i j c) z
-last-course g l (Suspect i c) z = suspect-course g l i c z
-last-course g l (Pause i) z = passes g l (Pause i) z
-last-course g l (Crash i) z = passes g l (Crash i) z
-last-course g l (Recover i) z = recover-course g l i z
+last-course g l d (DeliverE i j r c) z = passes g l d (DeliverE i j r c) z
+last-course g l d (DeliverS i j r c) z = passes g l d (DeliverS i j r c) z
+last-course g l d (DeliverF i j r c) z = past-course g l d (DeliverF i j r c) z
+last-course g l d (DeliverDecision i j c) z = passes g l d (DeliverDecision i j c) z
+last-course g l d (Suspect i c) z = suspect-course g l d i c z
+last-course g l d (Pause i) z = passes g l d (Pause i) z
+last-course g l d (Crash i) z = passes g l d (Crash i) z
+last-course g l d (Recover i) z = recover-course g l d i z
 
--- ---- the code's way: from the address, over the record and the entry
+-- ---- the code's way: from the address, over the record, the entry and its depth
 
 -- what an address that was reached says of its step
 pub record Reached (n : ℕ) (s : Step) (taker place : ℕ) (delivered recovering : Bool) : Type 0 where
@@ -179,11 +186,11 @@ reached {t} {k} {d} {c} n s e = go (numberRows n s) refl
         let y : _≡_ {A = ℕ} 0 1 = cc in
         absurd (omega arith)
 
-pub misses-course : {k : ℕ} (g : Group) (l : List ℕ) (s : Step) → Ready g l → addressOf (g .n) s ≡ Misses k → Refuses k ≡ course g l s
+pub misses-course : {k : ℕ} (g : Group) (l d : List ℕ) (s : Step) → Ready g l d → addressOf (g .n) s ≡ Misses k → Refuses k ≡ course g l d s
 unfolding addressOf unlessMissed
-misses-course {k} g l s h e = go (numberRows (g .n) s) refl
+misses-course {k} g l d s h e = go (numberRows (g .n) s) refl
   where
-    go : (m : ℕ) → numberRows (g .n) s ≡ m → Refuses k ≡ course g l s
+    go : (m : ℕ) → numberRows (g .n) s ≡ m → Refuses k ≡ course g l d s
     go zero z =
         let a : At (takerOf s) (slotOf s) (delivers s) (isRecover s) ≡ Misses k = rw z at e in
         let y : _≡_ {A = ℕ} 0 1 = cc in
@@ -191,18 +198,18 @@ misses-course {k} g l s h e = go (numberRows (g .n) s) refl
     go (suc m) z =
         let a : Misses (suc m) ≡ Misses k = rw z at e in
         let y : suc m ≡ k = cc in
-        ap Refuses (sym y) ∙ numbers-refuse g l s h z (λ b. omega arith)
+        ap Refuses (sym y) ∙ numbers-refuse g l d s h z (λ b. omega arith)
 
-pub held-course : (g : Group) (l : List ℕ) (s : Step) {i e : ℕ} {p : Process} → Ready g l → numberRows (g .n) s ≡ 0
-    → i ≡ takerOf s → e ≡ entryIn l s → p ≡ processAt g (takerOf s) → heldCourse (g .n) i e p s ≡ course g l s
+pub held-course : (g : Group) (l d : List ℕ) (s : Step) {i e k : ℕ} {p : Process} → Ready g l d → numberRows (g .n) s ≡ 0
+    → i ≡ takerOf s → e ≡ entryIn l s → k ≡ depthIn d s → p ≡ processAt g (takerOf s) → heldCourse (g .n) i e k p s ≡ course g l d s
 unfolding heldCourse unlessHeld
-held-course g l s h z hi he hp =
-    rw (hi, he, hp) (go (heldRows (g .n) (processAt g (takerOf s) .up) (entryIn l s) (delivers s) (isRecover s)) refl)
+held-course g l d s h z hi he hk hp =
+    rw (hi, he, hk, hp) (go (heldRows (g .n) (processAt g (takerOf s) .up) (entryIn l s) (depthIn d s) (delivers s) (isRecover s)) refl)
   where
-    go : (m : ℕ) → heldRows (g .n) (processAt g (takerOf s) .up) (entryIn l s) (delivers s) (isRecover s) ≡ m
-        → heldCourse (g .n) (takerOf s) (entryIn l s) (processAt g (takerOf s)) s ≡ course g l s
-    go zero y = rw y (last-course g l s (held-pass g l s h z y))
-    go (suc m) y = rw y (held-refuse g l s h z y (λ b. omega arith))
+    go : (m : ℕ) → heldRows (g .n) (processAt g (takerOf s) .up) (entryIn l s) (depthIn d s) (delivers s) (isRecover s) ≡ m
+        → heldCourse (g .n) (takerOf s) (entryIn l s) (depthIn d s) (processAt g (takerOf s)) s ≡ course g l d s
+    go zero y = rw y (last-course g l d s (held-pass g l d s h z y))
+    go (suc m) y = rw y (held-refuse g l d s h z y (λ b. omega arith))
 
 -- ---- what the rows that were passed say of a step's numbers
 
@@ -230,9 +237,9 @@ place-low n (Crash i) h z = omega arith
 place-low n (Recover i) h z = omega arith
 
 -- the taker's record, and what a course over it asks
-pub numbered : (g : Group) (l : List ℕ) (s : Step) {p : Process} → Ready g l → numberRows (g .n) s ≡ 0 → p ≡ processAt g (takerOf s) → Numbered (g .n) p s
-numbered g l s h z hp =
-    let f = sound-facts g (h .sound) in
+pub numbered : (g : Group) (l d : List ℕ) (s : Step) {p : Process} → Ready g l d → numberRows (g .n) s ≡ 0 → p ≡ processAt g (takerOf s) → Numbered (g .n) p s
+numbered g l d s h z hp =
+    let f = sound-facts g (deep-sound g (h .sound)) in
     let t = taker-low (g .n) s z in
     record {
       low = f .low;
@@ -240,6 +247,16 @@ numbered g l s h z hp =
       round = omega (arith, ap (λ (q : Process). q .round) hp, f .each (takerOf s) (t .0) (t .1) .in-round);
       numbers = z;
     }
+
+message-ranged : (n i j r : ℕ) → n ≤ greatestSize → Delivered n i j r
+    → row (not (among greatestSize i && (among greatestSize j && true))) 3 (row (ltb lastRound r) 4 0) ≡ 0
+unfolding row
+message-ranged n i j r h d =
+    rw (among-in greatestSize i (d .to-low) (le-trans (d .to-high) h), among-in greatestSize j (d .from-low) (le-trans (d .from-high) h), le-ltb lastRound r (d .round))
+
+own-ranged : (n i : ℕ) → n ≤ greatestSize → (1 ≤ i) × (i ≤ n) → row (not (among greatestSize i && true)) 3 (row (ltb lastRound 0) 4 0) ≡ 0
+unfolding row
+own-ranged n i h o = rw (among-in greatestSize i (o .0) (le-trans (o .1) h))
 
 -- of a message: its sender and its round
 abbrev Numbers : ℕ → ℕ → ℕ → Type 0
@@ -259,10 +276,22 @@ module _ (n i j r : ℕ) (c : Bool) {s : Step} (h : n ≤ greatestSize) (z : num
   numbers-F e = let d = delivered-zero n i j r (rw e at z) in (d .from-low, le-trans (d .from-high) h, d .round)
 
 -- of a delivered entry: its proposer
-pub held-names : (n : ℕ) (up : Bool) (e : ℕ) (s : Step) → n ≤ greatestSize → delivers s ≡ true
-    → heldRows n up e (delivers s) (isRecover s) ≡ 0 → proposerOf e ≤ greatestSize
-held-names n up e s h d z =
-    le-trans (held-zero n up e (isRecover s) (ap (λ (b : Bool). heldRows n up e b (isRecover s)) (sym d) ∙ z) .1) h
+pub held-names : (n : ℕ) (up : Bool) (e k : ℕ) (s : Step) → n ≤ greatestSize → heldRows n up e k (delivers s) (isRecover s) ≡ 0
+    → delivers s ≡ true → proposerOf e ≤ greatestSize
+held-names n up e k s h z d =
+    le-trans (held-zero n up e k (isRecover s) (ap (λ (b : Bool). heldRows n up e k b (isRecover s)) (sym d) ∙ z) .1) h
+
+-- a step whose numbers are of 1..n has numbers of 1..16
+pub ranged : (n : ℕ) (s : Step) → n ≤ greatestSize → numberRows n s ≡ 0 → Ranged s
+unfolding numberRows numbersOf every late roundOf row
+ranged n (DeliverE i j r c) h z = message-ranged n i j r h (delivered-zero n i j r z)
+ranged n (DeliverS i j r c) h z = message-ranged n i j r h (delivered-zero n i j r z)
+ranged n (DeliverF i j r c) h z = message-ranged n i j r h (delivered-zero n i j r z)
+ranged n (DeliverDecision i j c) h z = message-ranged n i j 0 h (delivered-zero n i j 0 z)
+ranged n (Suspect i c) h z = own-ranged n i h (owned-zero n i z)
+ranged n (Pause i) h z = own-ranged n i h (owned-zero n i z)
+ranged n (Crash i) h z = own-ranged n i h (owned-zero n i z)
+ranged n (Recover i) h z = own-ranged n i h (owned-zero n i z)
 
 -- ---- the outcome of a course
 
@@ -279,47 +308,66 @@ turned-small i (S r) l = unsent-small (eqb (getD l (placeOf i (S r)) 0) 0)
 turned-small i (F r q v) l = unsent-small (eqb (getD l (placeOf i (F r q v)) 0) 0)
 turned-small i (Decision v) l = unsent-small (eqb (getD l (placeOf i (Decision v)) 0) 0)
 
--- the record put back, the messages handed over and what is counted make the outcome of a step that is taken
-pub finishes : (g : Group) (i : ℕ) (x : Next) (l : List ℕ) {after : Group} {once last : List ℕ} {a b : ℕ} {d : Bool}
-    → after ≡ withProcess g i (x .process)
-    → (once ≡ handOver i (x .first) l) × (a ≡ turned i (x .first) l)
-    → (last ≡ handOver i (x .second) once) × (b ≡ turned i (x .second) once)
-    → d ≡ decidesNow (processAt g i) (x .process)
-    → outcome after last (saysApplied (a + b) d) ≡ settled g l (Takes i x)
-unfolding settled handOvers sentBy
-finishes g i x l hg h k hd = λ t.
-    outcome (hg t) ((k .0 ∙ ap (handOver i (x .second)) (h .0)) t)
-    (saysApplied (ap₂ _+_ (h .1) (k .1 ∙ ap (turned i (x .second)) (h .0)) t) (hd t))
+-- the record and the depth put back, the messages handed over and what is counted make the outcome of a step that is taken
+pub finishes : (g : Group) (i k : ℕ) (x : Next) (l d : List ℕ) {after : Group} {once last deep deeper : List ℕ} {a b : ℕ} {t : Bool}
+    → after ≡ withDepth (withProcess g i (x .process)) i k
+    → (once ≡ handOver i (x .first) l) × (deep ≡ dated i (x .first) k l d) × (a ≡ turned i (x .first) l)
+    → (last ≡ handOver i (x .second) once) × (deeper ≡ dated i (x .second) k once deep) × (b ≡ turned i (x .second) once)
+    → t ≡ decidesNow (processAt g i) (x .process)
+    → outcome after last deeper (saysApplied (a + b) t) ≡ settled g l d k (Takes i x)
+unfolding settled base.settled deepened datedBy datedBoth handOvers sentBy
+finishes g i k x l d hg h m ht = λ t.
+    outcome (hg t) ((m .0 ∙ ap (handOver i (x .second)) (h .0)) t) ((m .1 ∙ ap₂ (dated i (x .second) k) (h .0) (h .1)) t)
+    (saysApplied (ap₂ _+_ (h .2) (m .2 ∙ ap (turned i (x .second)) (h .0)) t) (ht t))
 
-module _ (g : Group) (l : List ℕ) (s : Step) where
-  pub idle-outcome : course g l s ≡ Idles → outcome g l saysIdle ≡ stepped g l s
-  unfolding stepped settled
+module _ (g : Group) (l d : List ℕ) (s : Step) where
+  pub idle-outcome : course g l d s ≡ Idles → outcome g l d saysIdle ≡ stepped g l d s
+  unfolding stepped settled base.settled deepened datedBy
   idle-outcome e = rw e
 
-  pub refused-outcome : {k : ℕ} → course g l s ≡ Refuses k → refused g l k ≡ stepped g l s
-  unfolding stepped settled
+  pub refused-outcome : {k : ℕ} → course g l d s ≡ Refuses k → outcome g l d (saysRefused k) ≡ stepped g l d s
+  unfolding stepped settled base.settled deepened datedBy
   refused-outcome e = rw e
 
-  pub taken-outcome : {i : ℕ} {x : Next} → course g l s ≡ Takes i x → settled g l (Takes i x) ≡ stepped g l s
+  pub taken-outcome : {i k : ℕ} {x : Next} → k ≡ depthAfter g d s → course g l d s ≡ Takes i x → settled g l d k (Takes i x) ≡ stepped g l d s
   unfolding stepped
-  taken-outcome e = rw e
+  taken-outcome h e = rw (h, e)
 
-  -- what a course hands over has its place in the store
-  pub takes-handable : {i : ℕ} {x : Next} → Ready g l → course g l s ≡ Takes i x → Handable i x l
+  -- what a course hands over has its place in both stores
+  pub takes-handable : {i : ℕ} {x : Next} → Ready g l d → course g l d s ≡ Takes i x → Handable i x l d
   takes-handable {i} {x} h e =
-      let t : Fine (g .n) (Takes i x) = subst (λ (c : Course). Fine (g .n) c) e (course-fine g l s) in
+      let t = course-takes g l d s e .0 in
       record {
         low = t .low;
-        high = le-trans (t .high) (sound-facts g (h .sound) .high);
+        high = t .small;
         first = t .first;
         second = t .second;
         long = h .long;
+        deep-long = h .deep-long;
       }
 
--- ---- refusals 11 and the group's 2
+  -- and the depth of the process that takes it can be raised
+  pub takes-dated : {i : ℕ} {x : Next} → Ready g l d → course g l d s ≡ Takes i x → Dated i d s
+  unfolding numberRows strange row
+  takes-dated {i} {x} h e =
+      let t = course-takes g l d s e in
+      record {
+        taker = t .2;
+        low = t .0 .low;
+        high = t .0 .small;
+        numbers = ranged (g .n) s (sound-facts g (deep-sound g (h .sound)) .high) (rw (t .1 .known, t .1 .early));
+        long = h .deep-long;
+        shallow = t .1 .shallow;
+      }
 
-pub short-outcome : (g : Group) (l : List ℕ) (s : Step) → short l ≡ true → refused g l 11 ≡ stepped g l s
-short-outcome g l s h = refused-outcome g l s (sym (refuses g l s (first-row g l s h) (λ a. omega arith)))
+-- ---- refusals 11, 14 of a short store and the group's 2
 
-pub damaged-outcome : (g : Group) (l : List ℕ) (s : Step) → short l ≡ false → damaged g ≡ true → refused g l 2 ≡ stepped g l s
-damaged-outcome g l s h d = refused-outcome g l s (sym (refuses g l s (second-row g l s h d) (λ a. omega arith)))
+pub short-outcome : (g : Group) (l d : List ℕ) (s : Step) → short l ≡ true → outcome g l d (saysRefused 11) ≡ stepped g l d s
+short-outcome g l d s h = refused-outcome g l d s (sym (refuses g l d s (first-row g l d s h) (λ a. omega arith)))
+
+pub shallow-outcome : (g : Group) (l d : List ℕ) (s : Step) → short l ≡ false → short d ≡ true → outcome g l d (saysRefused 14) ≡ stepped g l d s
+shallow-outcome g l d s h z = refused-outcome g l d s (sym (refuses g l d s (second-row g l d s h z) (λ a. omega arith)))
+
+pub damaged-outcome : (g : Group) (l d : List ℕ) (s : Step) → short l ≡ false → short d ≡ false → damaged g ≡ true
+    → outcome g l d (saysRefused 2) ≡ stepped g l d s
+damaged-outcome g l d s h z y = refused-outcome g l d s (sym (refuses g l d s (third-row g l d s h z y) (λ a. omega arith)))

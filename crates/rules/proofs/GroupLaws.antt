@@ -154,8 +154,8 @@ blank-process n i hi = λ k.
       decision = getD-replicate 48 (32 + (i - 1)) 0 0 (omega arith) k;
       recoveries = getD-replicate 64 (48 + (i - 1)) 0 0 (omega arith) k;
       up = getD-replicate 48 (32 + (i - 1)) false false (omega arith) k;
-      estimates = getD-replicate 32 (i - 1) 0 0 (omega arith) k;
-      suspicions = getD-replicate 32 (16 + (i - 1)) 0 0 (omega arith) k;
+      estimates = getD-replicate 48 (i - 1) 0 0 (omega arith) k;
+      suspicions = getD-replicate 48 (16 + (i - 1)) 0 0 (omega arith) k;
     }
 
 module _ (vs : List ℕ) where

@@ -7,6 +7,8 @@ pub mod GroupLaws
 pub mod StoreLaws
 pub mod ProcessLaws
 pub mod SoundLaws
+pub mod DepthLaws
+pub mod ForgetLaws
 pub mod StepLaws
 pub mod CourseLaws
 pub mod Unique

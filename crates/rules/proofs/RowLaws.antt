@@ -6,7 +6,7 @@ use native.Mathlib.Omega.{arith}
 use lib.Dec.{eqb, leb, ltb}
 use borrow.Author.Tests.{leb-true, le-leb, ltb-false, not-false}
 use Rattle.rules.specs.declared.step.Step.{Step}
-use Rattle.rules.specs.Limits.{lastRound, among}
+use Rattle.rules.specs.Limits.{lastRound, deepestMessage, among}
 use Rattle.rules.specs.Store.{proposerOf}
 use Rattle.rules.specs.Steps.{numbersOf}
 use Rattle.rules.specs.Refusals.{row, every, late}
@@ -38,16 +38,19 @@ number-else n s rest =
     ap (row (not (every (among n) (numbersOf s))) 3) (row-else (late s) 3 rest)
     ∙ row-chain (not (every (among n) (numbersOf s))) 2 (row (late s) 4 0) rest
 
-pub held-else : (n : ℕ) (up : Bool) (e : ℕ) (d c : Bool) (rest : ℕ)
-    → row (not c && not up) 5 (row (d && eqb e 0) 6 (row (d && not (among n (proposerOf e))) 2 rest)) ≡ orElse (heldRows n up e d c) rest
+pub held-else : (n : ℕ) (up : Bool) (e k : ℕ) (d c : Bool) (rest : ℕ)
+    → row (not c && not up) 5 (row (d && eqb e 0) 6 (row (d && not (among n (proposerOf e))) 2 (row (d && ltb deepestMessage k) 14 rest)))
+    ≡ orElse (heldRows n up e k d c) rest
 unfolding heldRows
-held-else n up e d c rest =
+held-else n up e k d c rest =
     let a = not c && not up in
     let b = d && eqb e 0 in
     let m = d && not (among n (proposerOf e)) in
-    ap (λ (k : ℕ). row a 5 (row b 6 k)) (row-else m 1 rest)
-    ∙ ap (row a 5) (row-chain b 5 (row m 2 0) rest)
-    ∙ row-chain a 4 (row b 6 (row m 2 0)) rest
+    let w = d && ltb deepestMessage k in
+    ap (λ (j : ℕ). row a 5 (row b 6 (row m 2 j))) (row-else w 13 rest)
+    ∙ ap (λ (j : ℕ). row a 5 (row b 6 j)) (row-chain m 1 (row w 14 0) rest)
+    ∙ ap (row a 5) (row-chain b 5 (row m 2 (row w 14 0)) rest)
+    ∙ row-chain a 4 (row b 6 (row m 2 (row w 14 0))) rest
 
 -- ---- none refuses
 
@@ -101,10 +104,11 @@ owned-zero n i e =
     among-true n i (and-left (among n i) true (not-false (among n i && true) (numbers .0)))
 
 -- a delivered entry names one of 1..n
-pub held-zero : (n : ℕ) (up : Bool) (e : ℕ) (c : Bool) → heldRows n up e true c ≡ 0 → (1 ≤ proposerOf e) × (proposerOf e ≤ n)
+pub held-zero : (n : ℕ) (up : Bool) (e k : ℕ) (c : Bool) → heldRows n up e k true c ≡ 0 → (1 ≤ proposerOf e) × (proposerOf e ≤ n)
 unfolding heldRows
-held-zero n up e c z =
-    let a = row-zero (not c && not up) 4 (row (true && eqb e 0) 6 (row (true && not (among n (proposerOf e))) 2 0)) z in
-    let b = row-zero (eqb e 0) 5 (row (not (among n (proposerOf e))) 2 0) (a .1) in
-    let d = row-zero (not (among n (proposerOf e))) 1 0 (b .1) in
+held-zero n up e k c z =
+    let w = row (ltb deepestMessage k) 14 0 in
+    let a = row-zero (not c && not up) 4 (row (true && eqb e 0) 6 (row (true && not (among n (proposerOf e))) 2 w)) z in
+    let b = row-zero (eqb e 0) 5 (row (not (among n (proposerOf e))) 2 w) (a .1) in
+    let d = row-zero (not (among n (proposerOf e))) 1 w (b .1) in
     among-true n (proposerOf e) (not-false (among n (proposerOf e)) (d .0))

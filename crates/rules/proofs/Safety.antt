@@ -28,3 +28,6 @@ pub mod HearRest
 pub mod EachStep
 pub mod Agree
 pub mod Theorem
+-- the run with depths
+pub mod Depths
+pub mod DepthSteps

@@ -27,7 +27,7 @@ use Rattle.rules.specs.Answers.{Outcome, refused}
 use Rattle.rules.specs.Events.{takes, enters, joinsEstimates, joinsSuspicions, decides, secondPhase, marks, paused, crashed, recovered, quiet, changed, jumpsIf, jumps, relaysIf, relays, decidesIf, decidesAt, goesToPhase2, goesToPhase2If, toPhase2, adoptsIf, adopts, opensIf, opens, entersNextIf, entersNextAt, onE, onS, onF, onDecision, onSuspect, onPause, onCrash, onRecover, cutIf}
 use Rattle.rules.specs.Steps.{takerOf, numbersOf, roundOf, delivers, isCut, entryIn, eventOf}
 use Rattle.rules.specs.Idle.{idle}
-use Rattle.rules.specs.Refusals.{row, allOf, every, short, whole, damaged, strange, late, down, unsent, misnamed, impossible, recoversPast, entersPast, refusal, miscounted, startRefusal}
+use Rattle.rules.specs.Refusals.{row, allOf, every, short, whole, damaged, strange, late, down, unsent, misnamed, impossible, recoversPast, entersPast, refusalBy, refusal, miscounted, startRefusal}
 use Rattle.rules.specs.Step.{idles, orIdle, unlessRefused, course, handOvers, sentBy, settled, stepped}
 use Rattle.rules.specs.Start.{fresh, startedTo, unlessRefusedStart, begun, started}
 use Rattle.rules.proofs.BoolLaws.{and-left, and-right, and-both, or-case}
@@ -365,37 +365,74 @@ pub record Passed (g : Group) (l : List ℕ) (s : Step) : Type 0 where
   pub not-many : recoversPast g s ≡ false
   pub within-rounds : entersPast g l s ≡ false
 
-pub refusal-passed : (g : Group) (l : List ℕ) (s : Step) → refusal g l s ≡ 0 → Passed g l s
-unfolding refusal
-refusal-passed g l s e =
+-- so of the table with what is told of the depths
+pub record PassedBy (shortDepths damage deep : Bool) (g : Group) (l : List ℕ) (s : Step) : Type 0 where
+  pub long : short l ≡ false
+  pub deep-long : shortDepths ≡ false
+  pub sound : damage ≡ false
+  pub known : strange g s ≡ false
+  pub early : late s ≡ false
+  pub up : down g s ≡ false
+  pub sent : unsent l s ≡ false
+  pub named : misnamed g l s ≡ false
+  pub shallow : deep ≡ false
+  pub possible : impossible g s ≡ false
+  pub not-many : recoversPast g s ≡ false
+  pub within-rounds : entersPast g l s ≡ false
+
+pub by-passed : (t u w : Bool) (g : Group) (l : List ℕ) (s : Step) → refusalBy t u w g l s ≡ 0 → PassedBy t u w g l s
+unfolding refusalBy
+by-passed t u w g l s e =
     let r₈ = row (entersPast g l s) 8 0 in
     let r₁₃ = row (recoversPast g s) 13 r₈ in
     let r₇ = row (impossible g s) 7 r₁₃ in
-    let r₂ = row (misnamed g l s) 2 r₇ in
+    let r₁₄ = row w 14 r₇ in
+    let r₂ = row (misnamed g l s) 2 r₁₄ in
     let r₆ = row (unsent l s) 6 r₂ in
     let r₅ = row (down g s) 5 r₆ in
     let r₄ = row (late s) 4 r₅ in
     let r₃ = row (strange g s) 3 r₄ in
-    let a = row-zero (short l) 10 (row (damaged g) 2 r₃) e in
-    let b = row-zero (damaged g) 1 r₃ (a .1) in
+    let a = row-zero (short l) 10 (row t 14 (row u 2 r₃)) e in
+    let a' = row-zero t 13 (row u 2 r₃) (a .1) in
+    let b = row-zero u 1 r₃ (a' .1) in
     let c = row-zero (strange g s) 2 r₄ (b .1) in
     let d = row-zero (late s) 3 r₅ (c .1) in
     let f = row-zero (down g s) 4 r₆ (d .1) in
     let h = row-zero (unsent l s) 5 r₂ (f .1) in
-    let i = row-zero (misnamed g l s) 1 r₇ (h .1) in
-    let j = row-zero (impossible g s) 6 r₁₃ (i .1) in
+    let i = row-zero (misnamed g l s) 1 r₁₄ (h .1) in
+    let i' = row-zero w 13 r₇ (i .1) in
+    let j = row-zero (impossible g s) 6 r₁₃ (i' .1) in
     let k = row-zero (recoversPast g s) 12 r₈ (j .1) in
     record {
       long = a .0;
+      deep-long = a' .0;
       sound = b .0;
       known = c .0;
       early = d .0;
       up = f .0;
       sent = h .0;
       named = i .0;
+      shallow = i' .0;
       possible = j .0;
       not-many = k .0;
       within-rounds = row-zero (entersPast g l s) 7 0 (k .1) .0;
+    }
+
+pub refusal-passed : (g : Group) (l : List ℕ) (s : Step) → refusal g l s ≡ 0 → Passed g l s
+unfolding refusal
+refusal-passed g l s e =
+    let h = by-passed false (damaged g) false g l s e in
+    record {
+      long = h .long;
+      sound = h .sound;
+      known = h .known;
+      early = h .early;
+      up = h .up;
+      sent = h .sent;
+      named = h .named;
+      possible = h .possible;
+      not-many = h .not-many;
+      within-rounds = h .within-rounds;
     }
 
 -- the first and the second number of a step that are of 1..n
@@ -512,7 +549,7 @@ module _ (g : Group) (l : List ℕ) (s : Step) (h : Passed g l s) where
   taker-whole : Whole (g .n) (processAt g (takerOf s))
   taker-whole = let to = taker-in g s (h .known) in sound-facts g (h .sound) .each (takerOf s) (to .0) (to .1)
 
-  passed-fine : (t cut : Bool) → idle g s ≡ t → Fine (g .n) (orIdle t cut (takerOf s) (processAt g (takerOf s)) (eventOf g l s))
+  pub passed-fine : (t cut : Bool) → idle g s ≡ t → Fine (g .n) (orIdle t cut (takerOf s) (processAt g (takerOf s)) (eventOf g l s))
   unfolding orIdle idles
   passed-fine true true e =
       taking (onCrash (processAt g (takerOf s))) (good-crash (g .n) (processAt g (takerOf s)) taker-whole)

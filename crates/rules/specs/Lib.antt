@@ -16,9 +16,13 @@ pub mod Refusals
 -- a step whole: "Every step is applied, idle or refused"
 pub mod Answers
 pub mod Step
+-- request 2026-06: the depths, over all that
+pub mod Depths
 -- a run, and "Runs to hold it against"
 pub mod Run
 pub mod Safety
+-- a run with depths
+pub mod DepthRun
 pub mod Table
 -- for the contracts of private functions alone
 pub mod Parts

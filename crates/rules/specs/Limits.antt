@@ -23,6 +23,13 @@ mostRecoveries = 255
 abbrev pub tooMany : ℕ → Bool
 tooMany k = ltb mostRecoveries (k + 1)
 
+-- Request 2026-06: the greatest depths of a message and of a process
+abbrev pub deepestMessage : ℕ
+deepestMessage = 3087
+
+abbrev pub deepestProcess : ℕ
+deepestProcess = 3088
+
 -- "Majority is floor(n/2) + 1"
 abbrev pub majority : ℕ → ℕ
 majority n = n / 2 + 1

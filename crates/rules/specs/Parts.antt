@@ -14,13 +14,14 @@ use Rattle.rules.specs.declared.course.Course.{Course}
 use Rattle.rules.specs.declared.course.Course.the-variants.{Refuses, Takes}
 use Rattle.rules.specs.declared.step.Step.{Step}
 use Rattle.rules.specs.declared.step.Step.the-variants.{DeliverE, DeliverS, DeliverF, DeliverDecision, Suspect, Pause, Crash, Recover}
-use Rattle.rules.specs.Limits.{greatestSize, lastRound, tooMany, storeLength, among}
+use Rattle.rules.specs.Limits.{greatestSize, lastRound, tooMany, storeLength, deepestMessage, among}
 use Rattle.rules.specs.Store.{proposerOf, valueOf, messageRound}
 use Rattle.rules.specs.Events.{onE, onS, onF, onDecision, onSuspect, onPause, onCrash, onRecover, cutIf}
 use Rattle.rules.specs.Steps.{takerOf, numbersOf, delivers, slotOf}
 use Rattle.rules.specs.Idle.{idleE, idleS, idleF}
-use Rattle.rules.specs.Refusals.{row, every, damaged, late, isRecover, maySuspect}
+use Rattle.rules.specs.Refusals.{row, every, late, isRecover, maySuspect}
 use Rattle.rules.specs.Step.{idles, orIdle}
+use Rattle.rules.specs.Depths as deep
 
 -- ---- the step alone: rows 3 and 4, then who takes it, where its message stands, whether it delivers one, whether it recovers
 
@@ -34,11 +35,14 @@ unlessMissed (suc k) a = Misses (suc k)
 unfoldable pub addressOf : ℕ → Step → Address
 addressOf n s = unlessMissed (numberRows n s) (At (takerOf s) (slotOf s) (delivers s) (isRecover s))
 
--- ---- the record p of process i and the entry e: rows 5, 6 and the entry's 2, then the course of each kind
+-- ---- the record p of process i, the entry e and its depth k: rows 5, 6, the entry's 2 and the message's 14, then the course of each kind
 
-unfoldable pub heldRows : ℕ → Bool → ℕ → Bool → Bool → ℕ
-heldRows n up e delivered recovering =
-    row (not recovering && not up) 5 (row (delivered && eqb e 0) 6 (row (delivered && not (among n (proposerOf e))) 2 0))
+unfoldable pub heldRows : ℕ → Bool → ℕ → ℕ → Bool → Bool → ℕ
+heldRows n up e k delivered recovering =
+    row (not recovering && not up) 5
+    (row (delivered && eqb e 0) 6
+    (row (delivered && not (among n (proposerOf e))) 2
+    (row (delivered && ltb deepestMessage k) 14 0)))
 
 -- an F: idle, refused where the event x is past the last round, or taken
 unfoldable pub unlessPast : Bool → Bool → ℕ → Next → Course
@@ -77,15 +81,27 @@ unfoldable pub unlessHeld : ℕ → Course → Course
 unlessHeld zero c = c
 unlessHeld (suc k) c = Refuses (suc k)
 
-unfoldable pub heldCourse : ℕ → ℕ → ℕ → Process → Step → Course
-heldCourse n i e p s = unlessHeld (heldRows n (p .up) e (delivers s) (isRecover s)) (lastCourse n i e p s)
+unfoldable pub heldCourse : ℕ → ℕ → ℕ → ℕ → Process → Step → Course
+heldCourse n i e k p s = unlessHeld (heldRows n (p .up) e k (delivers s) (isRecover s)) (lastCourse n i e p s)
+
+-- whether the step is a delivery to the process that is not idle
+unfoldable pub hears : Process → Step → Bool
+hears p (DeliverE to from r c) = not (idleE p from r)
+hears p (DeliverS to from r c) = not (idleS p from r)
+hears p (DeliverF to from r c) = not (idleF p from r)
+hears p (DeliverDecision to from c) = not (p .decided)
+hears p (Suspect to c) = false
+hears p (Pause to) = false
+hears p (Crash to) = false
+hears p (Recover to) = false
 
 -- ---- what the functions ask
 
--- a step, once 11 and the group's 2 are ruled out
-pub record Ready (g : Group) (l : List ℕ) : Type 0 where
+-- a step, once 11, the short 14 and the group's 2 are ruled out
+pub record Ready (g : Group) (l d : List ℕ) : Type 0 where
   pub long : storeLength ≤ length l
-  pub sound : damaged g ≡ false
+  pub deep-long : storeLength ≤ length d
+  pub sound : deep.damaged g ≡ false
 
 -- a course, once 3 and 4 are ruled out too
 pub record Numbered (n : ℕ) (p : Process) (s : Step) : Type 0 where
@@ -94,10 +110,24 @@ pub record Numbered (n : ℕ) (p : Process) (s : Step) : Type 0 where
   pub round : p .round ≤ lastRound
   pub numbers : numberRows n s ≡ 0
 
--- handing over, of process i, its messages and the store
-pub record Handable (i : ℕ) (x : Next) (l : List ℕ) : Type 0 where
+-- the numbers of a step alone, in a group of any size
+abbrev pub Ranged : Step → Type 0
+Ranged s = numberRows greatestSize s ≡ 0
+
+-- the depth after a step that process i takes, over the depths d
+pub record Dated (i : ℕ) (d : List ℕ) (s : Step) : Type 0 where
+  pub taker : i ≡ takerOf s
+  pub low : 1 ≤ i
+  pub high : i ≤ greatestSize
+  pub numbers : Ranged s
+  pub long : storeLength ≤ length d
+  pub shallow : deep.tooDeep d s ≡ false
+
+-- handing over, of process i, its messages and both stores
+pub record Handable (i : ℕ) (x : Next) (l d : List ℕ) : Type 0 where
   pub low : 1 ≤ i
   pub high : i ≤ greatestSize
   pub first : messageRound (x .first) ≤ lastRound
   pub second : messageRound (x .second) ≤ lastRound
   pub long : storeLength ≤ length l
+  pub deep-long : storeLength ≤ length d

@@ -37,7 +37,8 @@ stored p =
       recoveries = p .recoveries;
     }
 
--- a group of size n whose records are kept in four lists by width: numbers of 32 bits, of 16, of 8, and bools. Process i stands at i - 1 of each column of 16
+-- a group of size n whose records are kept in four lists by width: numbers of 32 bits, of 16, of 8, and bools. Process i stands at i - 1 of each column of 16.
+-- The last column of the numbers of 16 bits has the depths of request 2026-06, which are no part of the record: no rule of document 01 reads or writes them
 abbrev pub groupOf : ℕ → List ℕ → List ℕ → List ℕ → List Bool → Group
 groupOf n words halves bytes flags = record { n = n; words = words; halves = halves; bytes = bytes; flags = flags }
 
@@ -88,10 +89,20 @@ withProcess g i p =
     (put₄ (g .bytes) i (p .round) (p .phase) (p .proposer) (p .recoveries))
     (put₃ (g .flags) i (p .marked) (p .decided) (p .up))
 
+-- the depth of process i of g, and of the numbers of 16 bits; and g with the depth k of process i
+unfoldable pub depthIn : List ℕ → ℕ → ℕ
+depthIn halves i = getD halves (third + (i - 1)) 0
+
+unfoldable pub depthAt : Group → ℕ → ℕ
+depthAt g i = depthIn (g .halves) i
+
+unfoldable pub withDepth : Group → ℕ → ℕ → Group
+withDepth g i k = groupOf (g .n) (g .words) (set (g .halves) (third + (i - 1)) k) (g .bytes) (g .flags)
+
 -- every list has its whole columns: so has every group that the code holds
 pub record Sized (g : Group) : Type 0 where
   pub words : length (g .words) ≡ 3 * greatestSize
-  pub halves : length (g .halves) ≡ 2 * greatestSize
+  pub halves : length (g .halves) ≡ 3 * greatestSize
   pub bytes : length (g .bytes) ≡ 4 * greatestSize
   pub flags : length (g .flags) ≡ 3 * greatestSize
 
@@ -121,6 +132,14 @@ recordIf false g i = blank
 unfoldable pub recordOf : Group → ℕ → Process
 recordOf g i = recordIf (among greatestSize i) g i
 
--- a group of size n with every record blank
+-- so its depth: 0 where i is not 1 to 16
+unfoldable pub depthIf : Bool → Group → ℕ → ℕ
+depthIf true g i = depthAt g i
+depthIf false g i = 0
+
+unfoldable pub depthOf : Group → ℕ → ℕ
+depthOf g i = depthIf (among greatestSize i) g i
+
+-- a group of size n with every record blank, and every depth 0
 unfoldable pub blankGroup : ℕ → Group
-blankGroup n = groupOf n (replicate (3 * greatestSize) 0) (replicate (2 * greatestSize) 0) (replicate (4 * greatestSize) 0) (replicate (3 * greatestSize) false)
+blankGroup n = groupOf n (replicate (3 * greatestSize) 0) (replicate (3 * greatestSize) 0) (replicate (4 * greatestSize) 0) (replicate (3 * greatestSize) false)

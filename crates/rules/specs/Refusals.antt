@@ -120,16 +120,23 @@ entersPast g l (Recover i) = false
 unfoldable pub startRefusal : List ℕ → List ℕ → ℕ
 startRefusal vs l = row (short l) 11 (row (miscounted vs) 1 0)
 
--- "For steps: as listed from 11, without 1." And "13, after 7"
-unfoldable pub refusal : Group → List ℕ → Step → ℕ
-refusal g l s =
+-- "For steps: as listed from 11, without 1." And "13, after 7"; and with the two rows of request 2026-06, "14 right after 11" and "right after the entry's 2": whether the second store
+-- is short, whether the group is damaged, and whether the delivered message is too deep, is told
+unfoldable pub refusalBy : Bool → Bool → Bool → Group → List ℕ → Step → ℕ
+refusalBy shortDepths damage tooDeep g l s =
     row (short l) 11
-    (row (damaged g) 2
+    (row shortDepths 14
+    (row damage 2
     (row (strange g s) 3
     (row (late s) 4
     (row (down g s) 5
     (row (unsent l s) 6
     (row (misnamed g l s) 2
+    (row tooDeep 14
     (row (impossible g s) 7
     (row (recoversPast g s) 13
-    (row (entersPast g l s) 8 0)))))))))
+    (row (entersPast g l s) 8 0)))))))))))
+
+-- the table without depths
+unfoldable pub refusal : Group → List ℕ → Step → ℕ
+refusal g l s = refusalBy false (damaged g) false g l s

@@ -1,8 +1,8 @@
-// The course of a step: refused by a number, idle, or taken by a process with its next record and messages.
-// It is read off the step, one record taken out by value and one entry; nothing is written here.
+// The course of a step: refused by a number, idle, or taken by a process with its next record and messages; and the depth that the process then has.
+// It is read off the step, one record taken out by value, one entry and one depth; nothing is written here.
 ghost use mathlib.Core.Path.{_≡_};
 ghost use mathlib.Core.Bool.{_&&_, not, true, false};
-ghost use Prim.Native.Nat.{_≤_};
+ghost use Prim.Native.Nat.{ℕ, _≤_};
 ghost use Rattle.rules.specs.Limits as limits;
 ghost use lib.Dec.{ltb};
 ghost use Rattle.rules.specs.Records.{groupOf};
@@ -11,7 +11,8 @@ ghost use Rattle.rules.specs.Refusals as refusals;
 ghost use Rattle.rules.specs.Idle as idleness;
 ghost use Rattle.rules.specs.Events as events;
 ghost use Rattle.rules.specs.Step as steps;
-ghost use Rattle.rules.specs.Steps.{delivers};
+ghost use Rattle.rules.specs.Depths as deep;
+ghost use Rattle.rules.specs.Steps.{delivers, slotOf};
 ghost use Rattle.rules.specs.Parts as parts;
 use crate::group;
 use crate::group::Bytes;
@@ -106,6 +107,42 @@ pub(crate) fn own_address(n: u8, process: u32, recovers: bool) -> Address
 }
 
 impl Step {
+    // Where the message that it delivers stands; 0 where it delivers none.
+    pub(crate) fn place(self) -> usize
+        requires { ⌜ parts.Ranged self ⌝ }
+        ensures { λ r. ⌜ r ≡ slotOf self ⌝ }
+    {
+        match self {
+            Step::DeliverE {
+                to: _,
+                from,
+                round,
+                cut: _,
+            } => Store::slot(round as u8, from as u8, Store::E),
+            Step::DeliverS {
+                to: _,
+                from,
+                round,
+                cut: _,
+            } => Store::slot(round as u8, from as u8, Store::S),
+            Step::DeliverF {
+                to: _,
+                from,
+                round,
+                cut: _,
+            } => Store::slot(round as u8, from as u8, Store::F),
+            Step::DeliverDecision {
+                to: _,
+                from,
+                cut: _,
+            } => Store::decision_slot(from as u8),
+            Step::Suspect { process: _, cut: _ } => 0,
+            Step::Pause { process: _ } => 0,
+            Step::Crash { process: _ } => 0,
+            Step::Recover { process: _ } => 0,
+        }
+    }
+
     // Where the step leads in a group of n: refusals 3 and 4, then what it reads.
     pub(crate) fn address(self, n: u8) -> Address
         requires { ⌜ n ≤ limits.greatestSize ⌝ }
@@ -146,9 +183,16 @@ pub(crate) fn is_down(up: bool, recovers: bool) -> bool
     !recovers && !up
 }
 
-// Refusals 5, 6 and the entry's 2, or 0.
-pub(crate) fn held_refusal(n: u8, up: bool, entry: u64, delivers: bool, recovers: bool) -> u8
-    ensures { λ r. ⌜ r ≡ parts.heldRows n up entry delivers recovers ⌝ }
+// Refusals 5, 6, the entry's 2 and the message's 14, or 0.
+pub(crate) fn held_refusal(
+    n: u8,
+    up: bool,
+    entry: u64,
+    depth: u16,
+    delivers: bool,
+    recovers: bool,
+) -> u8
+    ensures { λ r. ⌜ r ≡ parts.heldRows n up entry depth delivers recovers ⌝ }
 {
     if is_down(up, recovers) {
         return 5;
@@ -161,6 +205,9 @@ pub(crate) fn held_refusal(n: u8, up: bool, entry: u64, delivers: bool, recovers
     }
     if !group::among(n, (entry / Store::VALUES) as u32) {
         return 2;
+    }
+    if Store::DEEPEST < depth {
+        return 14;
     }
     0
 }
@@ -269,9 +316,9 @@ impl Process {
         Course::Takes(i, self.on_recover())
     }
 
-    // The course of a step that none of 11 to the entry's 2 stops.
+    // The course of a step that none of 11 to the message's 14 stops.
     pub(crate) fn last_course(self, n: u8, i: u8, entry: u64, step: Step) -> Course
-        requires { ⌜ parts.Numbered n self step × (parts.heldRows n (self .up) entry (delivers step) (refusals.isRecover step) ≡ 0) ⌝ }
+        requires { ⌜ parts.Numbered n self step × (delivers step ≡ true → stores.proposerOf entry ≤ limits.greatestSize) ⌝ }
         ensures { λ r. ⌜ r ≡ parts.lastCourse n i entry self step ⌝ }
     {
         match step {
@@ -305,20 +352,57 @@ impl Process {
         }
     }
 
+    // Whether the step is a delivery that is not idle.
+    pub(crate) fn hears(self, step: Step) -> bool
+        requires { ⌜ parts.Ranged step ⌝ }
+        ensures { λ r. ⌜ r ≡ parts.hears self step ⌝ }
+    {
+        match step {
+            Step::DeliverE {
+                to: _,
+                from,
+                round,
+                cut: _,
+            } => !self.idle_e(from as u8, round as u8),
+            Step::DeliverS {
+                to: _,
+                from,
+                round,
+                cut: _,
+            } => !self.idle_s(from as u8, round as u8),
+            Step::DeliverF {
+                to: _,
+                from,
+                round,
+                cut: _,
+            } => !self.idle_f(from as u8, round as u8),
+            Step::DeliverDecision {
+                to: _,
+                from: _,
+                cut: _,
+            } => !self.decided,
+            Step::Suspect { process: _, cut: _ } => false,
+            Step::Pause { process: _ } => false,
+            Step::Crash { process: _ } => false,
+            Step::Recover { process: _ } => false,
+        }
+    }
+
     // The course of a step that none of 11 to 4 stops.
     pub(crate) fn course(
         self,
         n: u8,
         i: u8,
         entry: u64,
+        depth: u16,
         delivering: bool,
         recovering: bool,
         step: Step,
     ) -> Course
         requires { ⌜ parts.Numbered n self step × (delivering ≡ delivers step) × (recovering ≡ refusals.isRecover step) ⌝ }
-        ensures { λ r. ⌜ r ≡ parts.heldCourse n i entry self step ⌝ }
+        ensures { λ r. ⌜ r ≡ parts.heldCourse n i entry depth self step ⌝ }
     {
-        let refusal = held_refusal(n, self.up, entry, delivering, recovering);
+        let refusal = held_refusal(n, self.up, entry, depth, delivering, recovering);
         if refusal != 0 {
             return Course::Refuses(refusal);
         }
@@ -345,10 +429,11 @@ pub(crate) fn course_of(
     bytes: &Bytes,
     flags: &Flags,
     store: &[u64],
+    depths: &[u16],
     step: Step,
 ) -> Course
-    requires { ⌜ parts.Ready (groupOf n (now words) (now halves) (now bytes) (now flags)) (now store) ⌝ }
-    ensures { λ r. ⌜ r ≡ steps.course (groupOf n (now (words .entry)) (now (halves .entry)) (now (bytes .entry)) (now (flags .entry))) (now (store .entry)) step ⌝ }
+    requires { ⌜ parts.Ready (groupOf n (now words) (now halves) (now bytes) (now flags)) (now store) (now depths) ⌝ }
+    ensures { λ r. ⌜ r ≡ deep.course (groupOf n (now (words .entry)) (now (halves .entry)) (now (bytes .entry)) (now (flags .entry))) (now (store .entry)) (now (depths .entry)) step ⌝ }
 {
     let address = step.address(n);
     match address {
@@ -360,8 +445,41 @@ pub(crate) fn course_of(
             recovers,
         } => {
             let entry = store[place];
+            let depth = depths[place];
             let p = group::take_out(words, halves, bytes, flags, taker);
-            p.course(n, taker, entry, delivers, recovers, step)
+            p.course(n, taker, entry, depth, delivers, recovers, step)
         }
     }
+}
+
+// The depth of process i, which takes a step, after it.
+pub(crate) fn depth_after(
+    words: &Words,
+    halves: &Halves,
+    bytes: &Bytes,
+    flags: &Flags,
+    depths: &[u16],
+    i: u8,
+    step: Step,
+) -> u16
+    requires { ⌜ parts.Dated i (now depths) step ⌝ }
+    ensures { λ r. ⌜ ((n : ℕ) → r ≡ deep.depthAfter (groupOf n (now (words .entry)) (now (halves .entry)) (now (bytes .entry)) (now (flags .entry))) (now (depths .entry)) step) ⌝ }
+{
+    let p = group::take_out(words, halves, bytes, flags, i);
+    let old = group::depth_of(halves, i);
+    if !p.hears(step) {
+        return old;
+    }
+    raised(depths[step.place()], old)
+}
+
+// A depth, raised to one more than the message's where that is more.
+pub(crate) fn raised(depth: u16, old: u16) -> u16
+    requires { ⌜ depth ≤ limits.deepestMessage ⌝ }
+    ensures { λ r. ⌜ r ≡ deep.raised true depth old ⌝ }
+{
+    if depth < old {
+        return old;
+    }
+    depth + 1
 }

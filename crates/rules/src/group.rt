@@ -7,9 +7,9 @@ ghost use lib.Dec.{eqb};
 ghost use lib.ListN.{length};
 ghost use Rattle.rules.specs.Limits as limits;
 ghost use Rattle.rules.specs.Records as records;
+ghost use Rattle.rules.specs.Depths as deep;
 ghost use Rattle.rules.specs.Refusals as refusals;
 ghost use Rattle.rules.specs.Start as starts;
-ghost use Rattle.rules.specs.Step as steps;
 use crate::process::Message;
 use crate::process::Process;
 use crate::step;
@@ -21,14 +21,14 @@ use crate::tally;
 
 pub type Words = [u32; 3 * Group::GREATEST];
 
-pub type Halves = [u16; 2 * Group::GREATEST];
+pub type Halves = [u16; 3 * Group::GREATEST];
 
 pub type Bytes = [u8; 4 * Group::GREATEST];
 
 pub type Flags = [bool; 3 * Group::GREATEST];
 
 // n processes; the record of process i stands at i - 1 of each column of 16. In `words` the columns are first values, estimates' values and decisions;
-// in `halves` estimates heard and suspicions heard; in `bytes` rounds, phases, estimates' proposers and numbers of recoveries; in `flags` marks, whether decided, and whether up.
+// in `halves` estimates heard, suspicions heard and depths; in `bytes` rounds, phases, estimates' proposers and numbers of recoveries; in `flags` marks, whether decided, and whether up.
 pub struct Group {
     pub n: u8,
     pub words: Words,
@@ -92,6 +92,31 @@ pub(crate) fn put_back(
     flags[Group::THIRD + at] = p.up;
 }
 
+// The depth of process i.
+pub(crate) fn depth_of(halves: &Halves, i: u8) -> u16
+    requires { ⌜ (1 ≤ i) × (i ≤ limits.greatestSize) ⌝ }
+    ensures { λ r. ⌜ r ≡ records.depthIn (now (halves .entry)) i ⌝ }
+{
+    halves[Group::THIRD + (i - 1) as usize]
+}
+
+// Puts p back as the record of process i, with its depth.
+pub(crate) fn put_deep(
+    words: &mut Words,
+    halves: &mut Halves,
+    bytes: &mut Bytes,
+    flags: &mut Flags,
+    i: u8,
+    p: Process,
+    depth: u16,
+)
+    requires { ⌜ (1 ≤ i) × (i ≤ limits.greatestSize) ⌝ }
+    ensures { λ r. ⌜ ((n : ℕ) → records.groupOf n (now (words .exit)) (now (halves .exit)) (now (bytes .exit)) (now (flags .exit)) ≡ records.withDepth (records.withProcess (records.groupOf n (now (words .entry)) (now (halves .entry)) (now (bytes .entry)) (now (flags .entry))) i p) i depth) ⌝ }
+{
+    put_back(words, halves, bytes, flags, i, p);
+    halves[Group::THIRD + (i - 1) as usize] = depth;
+}
+
 // Whether m is one of 1..n.
 pub(crate) fn among(n: u8, m: u32) -> bool
     ensures { λ r. ⌜ r ≡ limits.among n m ⌝ }
@@ -118,9 +143,9 @@ pub(crate) fn whole(n: u8, p: Process) -> bool
     (p.round <= Process::LAST_ROUND) & (phase & (proposer & (estimates & suspicions)))
 }
 
-// Whether a group is damaged: its size is not 1 to 16, or a record of its processes has damage.
+// Whether a group is damaged: its size is not 1 to 16, or a record of its processes has damage or too great a depth.
 pub(crate) fn damaged(n: u8, words: &Words, halves: &Halves, bytes: &Bytes, flags: &Flags) -> bool
-    ensures { λ r. ⌜ r ≡ refusals.damaged (records.groupOf n (now (words .entry)) (now (halves .entry)) (now (bytes .entry)) (now (flags .entry))) ⌝ }
+    ensures { λ r. ⌜ r ≡ deep.damaged (records.groupOf n (now (words .entry)) (now (halves .entry)) (now (bytes .entry)) (now (flags .entry))) ⌝ }
 {
     if n == 0 {
         return true;
@@ -133,7 +158,8 @@ pub(crate) fn damaged(n: u8, words: &Words, halves: &Halves, bytes: &Bytes, flag
     while k < Group::LAST_NUMBER {
         let i = k + 1;
         let good = whole(n, take_out(words, halves, bytes, flags, i));
-        sound = sound & (good | (n <= k));
+        let shallow = depth_of(halves, i) <= Group::DEEPEST;
+        sound = sound & ((good & shallow) | (n <= k));
         k = i;
     }
     !sound
@@ -162,6 +188,16 @@ impl Group {
     // The most processes that a group has.
     pub const GREATEST: usize = 16;
 
+    // The greatest depth that a process can have.
+    pub const DEEPEST: u16 = 3088;
+
+    // The constant is the definitions' limit.
+    pub(crate) fn deepest() -> u16
+        ensures { λ r. ⌜ r ≡ limits.deepestProcess ⌝ }
+    {
+        Group::DEEPEST
+    }
+
     // The number of the last process that a group can have.
     const LAST_NUMBER: u8 = Group::GREATEST as u8;
 
@@ -186,7 +222,7 @@ impl Group {
         Group {
             n: 0,
             words: [0; 3 * Group::GREATEST],
-            halves: [0; 2 * Group::GREATEST],
+            halves: [0; 3 * Group::GREATEST],
             bytes: [0; 4 * Group::GREATEST],
             flags: [false; 3 * Group::GREATEST],
         }
@@ -206,14 +242,31 @@ impl Group {
         take_out(&words, &halves, &bytes, &flags, i as u8)
     }
 
-    // A group of one process for each value, with process 1's E of round 0 in a store that is cleared before. Refused: a group of size 0, and the store as it was.
-    pub fn start(values: &[u32], store: &mut [u64]) -> Taken
-        ensures { λ r. ⌜ starts.Starts (now (values .entry)) (now (store .entry)) r (now (store .exit)) ⌝ }
+    // The depth of process i, and 0 where i is not 1 to 16. Of a process that has decided it is the decision's: its number of communication steps.
+    pub fn depth(self, i: u32) -> u16
+        ensures { λ r. ⌜ r ≡ records.depthOf self i ⌝ }
+    {
+        if !among(Group::LAST_NUMBER, i) {
+            return 0;
+        }
+        let halves = self.halves;
+        depth_of(&halves, i as u8)
+    }
+
+    // A group of one process for each value, with process 1's E of round 0 in a store that is cleared before, and all depths 0. Refused: a group of size 0, and both stores as they were.
+    pub fn start(values: &[u32], store: &mut [u64], depths: &mut [u16]) -> Taken
+        ensures { λ r. ⌜ deep.Starts (now (values .entry)) (now (store .entry)) (now (depths .entry)) r (now (store .exit)) (now (depths .exit)) ⌝ }
     {
         if store.len() < Store::LENGTH {
             return Taken {
                 group: Group::none(),
                 answer: Answer::Refused(11),
+            };
+        }
+        if depths.len() < Store::LENGTH {
+            return Taken {
+                group: Group::none(),
+                answer: Answer::Refused(14),
             };
         }
         let n = values.len();
@@ -230,11 +283,11 @@ impl Group {
             };
         }
         let mut words = [0u32; 3 * Group::GREATEST];
-        let mut halves = [0u16; 2 * Group::GREATEST];
+        let mut halves = [0u16; 3 * Group::GREATEST];
         let mut bytes = [0u8; 4 * Group::GREATEST];
         let mut flags = [false; 3 * Group::GREATEST];
         fill(values, &mut words, &mut halves, &mut bytes, &mut flags);
-        begin(values[0], store);
+        begin(values[0], store, depths);
         let group = Group {
             n: n as u8,
             words: words,
@@ -251,9 +304,9 @@ impl Group {
         }
     }
 
-    // One step of the group over its store.
-    pub fn step(self, store: &mut [u64], step: Step) -> Taken
-        ensures { λ r. ⌜ steps.Steps self (now (store .entry)) step r (now (store .exit)) ⌝ }
+    // One step of the group over its store and the depths of its messages.
+    pub fn step(self, store: &mut [u64], depths: &mut [u16], step: Step) -> Taken
+        ensures { λ r. ⌜ deep.Steps self (now (store .entry)) (now (depths .entry)) step r (now (store .exit)) (now (depths .exit)) ⌝ }
     {
         let n = self.n;
         let mut words = self.words;
@@ -267,6 +320,7 @@ impl Group {
             &mut bytes,
             &mut flags,
             store,
+            depths,
             step,
         );
         let group = Group {
@@ -283,14 +337,17 @@ impl Group {
     }
 }
 
-// Clears the store and hands process 1's E of round 0 over.
-pub(crate) fn begin(value: u32, store: &mut [u64])
-    requires { ⌜ limits.storeLength ≤ length (now store) ⌝ }
-    ensures { λ r. ⌜ now (store .exit) ≡ starts.opened value (now (store .entry)) ⌝ }
+// Clears the store and the depths, and hands process 1's E of round 0 over, whose depth is 0.
+pub(crate) fn begin(value: u32, store: &mut [u64], depths: &mut [u16])
+    requires { ⌜ (limits.storeLength ≤ length (now store)) × (limits.storeLength ≤ length (now depths)) ⌝ }
+    ensures { λ r. ⌜ (now (store .exit) ≡ starts.opened value (now (store .entry))) × (now (depths .exit) ≡ deep.opened value (now (store .entry)) (now (depths .entry))) ⌝ }
 {
     Store::clear(store);
+    Store::clear_depths(depths);
     Store::hand_over(
         store,
+        depths,
+        0,
         1,
         Message::E {
             round: 0,

@@ -1,20 +1,32 @@
 // The message store: the places of the messages, their entries, and handing over, its only writer beside the clearing at a start.
+// Beside it stands a second store: the depth of each message, at the same place.
 ghost use mathlib.Core.Path.{_≡_};
 ghost use Prim.Native.Nat.{_≤_, _<_};
 ghost use lib.Dec.{eqb};
 ghost use lib.ListN.{length, getD, set};
 ghost use Rattle.rules.specs.Limits as limits;
 ghost use Rattle.rules.specs.Store as stores;
+ghost use Rattle.rules.specs.Depths as deep;
 ghost use Rattle.rules.specs.Tally.{bitOf};
 use crate::group::Group;
 use crate::process::Message;
 
-// The store itself is a slice of 64-bit entries that the caller lends; this type has its limits.
+// The store itself is a slice of 64-bit entries that the caller lends, and the depths one of 16-bit numbers; this type has their limits.
 pub struct Store {}
 
 impl Store {
-    // How many entries a store has. What lies past them is never touched.
+    // How many entries a store has, and how many depths. What lies past them is never touched.
     pub const LENGTH: usize = 3088;
+
+    // The greatest depth that a message can have.
+    pub const DEEPEST: u16 = 3087;
+
+    // The constant is the definitions' limit.
+    pub(crate) fn deepest() -> u16
+        ensures { λ r. ⌜ r ≡ limits.deepestMessage ⌝ }
+    {
+        Store::DEEPEST
+    }
 
     // How many values there are: an entry is its proposer times this, and its value.
     pub(crate) const VALUES: u64 = 4294967296;
@@ -70,20 +82,36 @@ impl Store {
         (entry % Store::VALUES) as u32
     }
 
-    // Writes an entry, and answers 1 where it turns from 0.
-    pub(crate) fn write(store: &mut [u64], at: usize, entry: u64) -> u8
-        requires { ⌜ at < length (now store) ⌝ }
-        ensures { λ r. ⌜ (now (store .exit) ≡ set (now (store .entry)) at entry) × (r ≡ bitOf (eqb (getD (now (store .entry)) at 0) 0)) ⌝ }
+    // Writes an entry, and answers 1 where it turns from 0: the message then gets the depth.
+    pub(crate) fn write(
+        store: &mut [u64],
+        depths: &mut [u16],
+        depth: u16,
+        at: usize,
+        entry: u64,
+    ) -> u8
+        requires { ⌜ (at < length (now store)) × (at < length (now depths)) ⌝ }
+        ensures { λ r. ⌜ (now (store .exit) ≡ set (now (store .entry)) at entry) × (now (depths .exit) ≡ deep.datedAt at depth (now (store .entry)) (now (depths .entry))) × (r ≡ bitOf (eqb (getD (now (store .entry)) at 0) 0)) ⌝ }
     {
         let old = store[at];
         store[at] = entry;
-        if old == 0 { 1 } else { 0 }
+        if old != 0 {
+            return 0;
+        }
+        depths[at] = depth;
+        1
     }
 
-    // Process i hands a message over. Answers how many entries turn from 0.
-    pub(crate) fn hand_over(store: &mut [u64], i: u8, message: Message) -> u8
-        requires { ⌜ (1 ≤ i) × (i ≤ limits.greatestSize) × (stores.messageRound message ≤ limits.lastRound) × (limits.storeLength ≤ length (now store)) ⌝ }
-        ensures { λ r. ⌜ (now (store .exit) ≡ stores.handOver i message (now (store .entry))) × (r ≡ stores.turned i message (now (store .entry))) ⌝ }
+    // Process i hands a message over at a depth. Answers how many entries turn from 0.
+    pub(crate) fn hand_over(
+        store: &mut [u64],
+        depths: &mut [u16],
+        depth: u16,
+        i: u8,
+        message: Message,
+    ) -> u8
+        requires { ⌜ (1 ≤ i) × (i ≤ limits.greatestSize) × (stores.messageRound message ≤ limits.lastRound) × (limits.storeLength ≤ length (now store)) × (limits.storeLength ≤ length (now depths)) ⌝ }
+        ensures { λ r. ⌜ (now (store .exit) ≡ stores.handOver i message (now (store .entry))) × (now (depths .exit) ≡ deep.dated i message depth (now (store .entry)) (now (depths .entry))) × (r ≡ stores.turned i message (now (store .entry))) ⌝ }
     {
         match message {
             Message::Nothing => 0,
@@ -93,11 +121,15 @@ impl Store {
                 value,
             } => Store::write(
                 store,
+                depths,
+                depth,
                 Store::slot(round, i, Store::E),
                 Store::entry_of(proposer, value),
             ),
             Message::S { round } => Store::write(
                 store,
+                depths,
+                depth,
                 Store::slot(round, i, Store::S),
                 Store::entry_of(i, 0),
             ),
@@ -107,11 +139,15 @@ impl Store {
                 value,
             } => Store::write(
                 store,
+                depths,
+                depth,
                 Store::slot(round, i, Store::F),
                 Store::entry_of(proposer, value),
             ),
             Message::Decision { value } => Store::write(
                 store,
+                depths,
+                depth,
                 Store::decision_slot(i),
                 Store::entry_of(i, value),
             ),
@@ -126,6 +162,18 @@ impl Store {
         let mut at: usize = 0;
         while at < Store::LENGTH {
             store[at] = 0;
+            at += 1;
+        }
+    }
+
+    // Clears the depths, and nothing past them.
+    pub(crate) fn clear_depths(depths: &mut [u16])
+        requires { ⌜ limits.storeLength ≤ length (now depths) ⌝ }
+        ensures { λ r. ⌜ now (depths .exit) ≡ stores.cleared limits.storeLength (now (depths .entry)) ⌝ }
+    {
+        let mut at: usize = 0;
+        while at < Store::LENGTH {
+            depths[at] = 0;
             at += 1;
         }
     }

@@ -22,7 +22,7 @@ use Rattle.rules.specs.Limits.{greatestSize, lastRound, storeLength, amo
 use Rattle.rules.specs.Store.{kindE, kindS, kindF, placeOf, messageRound, handOver, cleared}
 use Rattle.rules.specs.Start.{firstMessage, opened, begun}
 use Rattle.rules.specs.Steps.{numbersOf, roundOf, delivers, slotOf, entryIn}
-use Rattle.rules.specs.Refusals.{row, every, short, damaged, strange, late, down, unsent, misnamed, impossible, recoversPast, entersPast, refusal}
+use Rattle.rules.specs.Refusals.{row, every, short, damaged, strange, late, down, unsent, misnamed, impossible, recoversPast, entersPast, refusalBy, refusal}
 use Rattle.rules.specs.Step.{course, handOvers, settled, stepped}
 use Rattle.rules.specs.Run.{State, startState, next, after, Handed, handed, one, handedByCourse, handedBy, handedIn, handedFrom}
 use Rattle.rules.specs.Safety.{Begins, at, Delivers, Among, RefusalSix}
@@ -46,7 +46,7 @@ Addresses (Crash i) = ⊥
 Addresses (Recover i) = ⊥
 
 -- it is in range
-address-lt : (s : Step) → Addresses s → slotOf s < storeLength
+pub address-lt : (s : Step) → Addresses s → slotOf s < storeLength
 unfolding slotOf
 address-lt (DeliverE i j r c) h = omega arith
 address-lt (DeliverS i j r c) h = omega arith
@@ -88,7 +88,7 @@ delivered-place (Crash t) i m d = absurd d
 delivered-place (Recover t) i m d = absurd d
 
 -- and no other message does
-place-delivered : (s : Step) (i : ℕ) (m : Message) → Addresses s → 1 ≤ i → i ≤ greatestSize → messageRound m ≤ lastRound → IsMessage m
+pub place-delivered : (s : Step) (i : ℕ) (m : Message) → Addresses s → 1 ≤ i → i ≤ greatestSize → messageRound m ≤ lastRound → IsMessage m
     → slotOf s ≡ placeOf i m → Delivers s (handed i m)
 unfolding Delivers slotOf placeOf messageRound
 place-delivered (DeliverE t j r c) i (E k q v) h lo hi le is e =
@@ -256,7 +256,7 @@ row-six false false false false false = (λ e. absurd (omega arith), λ e. cc)
 -- of a delivery that none of 11 to 5 stops, these rows are all that is left
 left-rows : (g : Group) (l : List ℕ) (s : Step) → storeLength ≤ length l → damaged g ≡ false → strange g s ≡ false → late s ≡ false → down g s ≡ false
     → refusal g l s ≡ row (unsent l s) 6 (row (misnamed g l s) 2 (row (impossible g s) 7 (row (recoversPast g s) 13 (row (entersPast g l s) 8 0))))
-unfolding refusal row short
+unfolding refusal refusalBy row short
 left-rows g l s long sound numbers round up = rw (le-ltb (length l) storeLength long, sound, numbers, round, up)
 
 -- a delivery is unsent where its entry is 0

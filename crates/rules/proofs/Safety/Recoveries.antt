@@ -22,7 +22,7 @@ use Rattle.rules.specs.Start.{fresh, begun}
 use Rattle.rules.specs.Events.{crashed, recovered, quiet, onCrash, onRecover, cutIf}
 use Rattle.rules.specs.Steps.{takerOf, numbersOf, roundOf, delivers, isCut, eventOf}
 use Rattle.rules.specs.Idle.{idle}
-use Rattle.rules.specs.Refusals.{row, every, short, strange, late, isRecover, down, unsent, misnamed, impossible, recoversPast, entersPast, refusal}
+use Rattle.rules.specs.Refusals.{row, every, short, strange, late, isRecover, down, unsent, misnamed, impossible, recoversPast, entersPast, refusalBy, refusal}
 use Rattle.rules.specs.Step.{orIdle, unlessRefused, course, settled, stepped}
 use Rattle.rules.specs.Run.{State, startState, next, after}
 use Rattle.rules.specs.Safety.{Begins, at, processOf, Of, recoversOf, RecoveriesCounted, RecoveriesFit, RefusalThirteen}
@@ -38,7 +38,7 @@ use Rattle.rules.proofs.Safety.Fields.{event-keeps}
 -- row 13 is all that is left
 pub recover-rows : (vs : List ℕ) (a : State) (i : ℕ) → Basic vs a → Of vs i → processOf a i .up ≡ false
     → refusal (a .group) (a .store) (Recover i) ≡ row (tooMany (processOf a i .recoveries)) 13 0
-unfolding refusal row short strange every numbersOf late roundOf down isRecover takerOf unsent delivers misnamed impossible recoversPast entersPast
+unfolding refusal refusalBy row short strange every numbersOf late roundOf down isRecover takerOf unsent delivers misnamed impossible recoversPast entersPast
 recover-rows vs a i h o d =
     rw (le-ltb (length (a .store)) storeLength (h .long), h .sound, among-in (a .group .n) i (o .low) (omega (arith, h .size, o .high)), d)
 

@@ -25,7 +25,7 @@ use Rattle.rules.specs.Store.{entryOf, proposerOf, valueOf, entryFor}
 use Rattle.rules.specs.Start.{fresh, startedTo, opened, begun}
 use Rattle.rules.specs.Events.{takes, enters, joinsEstimates, joinsSuspicions, decides, secondPhase, marks, paused, crashed, recovered, quiet, changed, jumpsIf, jumps, relaysIf, relays, decidesIf, decidesAt, goesToPhase2, goesToPhase2If, toPhase2, adoptsIf, adopts, opensIf, opens, entersNextIf, entersNextAt, onE, onS, onF, onDecision, onSuspect, onPause, onCrash, onRecover, cutIf}
 use Rattle.rules.specs.Steps.{takerOf, isCut, delivers, slotOf, entryIn, eventOf}
-use Rattle.rules.specs.Refusals.{row, short, damaged, strange, late, down, unsent, misnamed, impossible, recoversPast, entersPast, refusal}
+use Rattle.rules.specs.Refusals.{row, short, damaged, strange, late, down, unsent, misnamed, impossible, recoversPast, entersPast, refusalBy, refusal}
 use Rattle.rules.specs.Step.{handOvers, settled, stepped}
 use Rattle.rules.specs.Parts.{numberRows}
 use Rattle.rules.specs.Run.{State, startState, next}
@@ -262,7 +262,7 @@ sent-named false n e h z = refl
 -- where every entry does, rows 11 and 2 never hold
 never-refuses : (g : Group) (l : List ℕ) (s : Step) → storeLength ≤ length l → damaged g ≡ false
     → ((k : ℕ) → k < storeLength → Fits (g .n) (getD l k 0)) → Other (refusal g l s)
-unfolding refusal short strange unsent misnamed entryIn numberRows
+unfolding refusal refusalBy row short strange unsent misnamed entryIn numberRows
 never-refuses g l s long sound fits =
     row-by Other (short l) 11 _ (λ e. never (le-ltb (length l) storeLength long) e) λ e₁₁.
     row-by Other (damaged g) 2 _ (λ e. never sound e) λ e₂.

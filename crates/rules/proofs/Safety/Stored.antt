@@ -23,7 +23,7 @@ use Rattle.rules.specs.Start.{fresh, begun}
 use Rattle.rules.specs.Events.{paused, crashed, recovered, quiet, onPause, onCrash, onRecover, cutIf}
 use Rattle.rules.specs.Steps.{takerOf, isCut, entryIn, eventOf, numbersOf, roundOf, delivers, slotOf}
 use Rattle.rules.specs.Idle.{pastFor, idle, idleE, idleS, idleF}
-use Rattle.rules.specs.Refusals.{isRecover, down, maySuspect, impossible, refusal, strange, late, unsent, misnamed, recoversPast, entersPast}
+use Rattle.rules.specs.Refusals.{isRecover, down, maySuspect, impossible, refusalBy, refusal, strange, late, unsent, misnamed, recoversPast, entersPast}
 use Rattle.rules.specs.Step.{idles, orIdle, unlessRefused, course, settled, stepped}
 use Rattle.rules.specs.Run.{State, startState, next, after}
 use Rattle.rules.specs.Safety.{Begins, at, processOf, Of, FirstValuesStay, DecisionsStay, DownThrough, cut, backUnless, back, Recovery, DownKeeps, GoingDownKeeps, CutStores}
@@ -231,7 +231,7 @@ recovery vs l ss b ts i o d = down-through vs (at vs l ss) ts i (basic vs l ss b
 
 -- no row of the refusals looks at the cut
 cut-refusal : (g : Group) (l : List ℕ) (s : Step) → refusal g l (cut s) ≡ refusal g l s
-unfolding refusal cut strange numbersOf late roundOf down isRecover takerOf unsent delivers entryIn slotOf misnamed impossible recoversPast entersPast idle eventOf
+unfolding refusal refusalBy cut strange numbersOf late roundOf down isRecover takerOf unsent delivers entryIn slotOf misnamed impossible recoversPast entersPast idle eventOf
 cut-refusal g l (DeliverE i j r c) = refl
 cut-refusal g l (DeliverS i j r c) = refl
 cut-refusal g l (DeliverF i j r c) = refl

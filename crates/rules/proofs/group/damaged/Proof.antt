@@ -1,8 +1,10 @@
--- `damaged` meets its contract: before each turn `sound` says whether the processes passed of 1..n are whole. Assumes nothing.
+-- `damaged` meets its contract: before each turn `sound` says whether the processes passed of 1..n are whole and not too deep. Assumes nothing.
 use Rattle.rules.proofs.RowLaws.{among-in}
 use Rattle.rules.proofs.AllLaws.{all-none}
-use Rattle.rules.specs.Refusals.{allOf, whole, damaged}
-use Rattle.rules.specs.Records.{processAt, groupOf}
+use Rattle.rules.specs.Depths.{damaged}
+use Rattle.rules.specs.Refusals.{allOf, whole}
+use Rattle.rules.specs.Records.{processAt, depthAt, groupOf}
+use Rattle.rules.specs.Limits.{deepestProcess, among}
 use Rattle.rules.specs.declared.group.Group.{Group}
 use borrow.Author.Tests.{lt-leb, leb-true, leb-false}
 use lib.Dec.{leb}
@@ -12,12 +14,11 @@ use Prim.Native.Nat.{ℕ, _+_, _≤_, _<_, _-_, min}
 use mathlib.Core.Bool.{Bool, true, false, _&&_, _||_, not, and-false}
 use mathlib.Core.Path.{_≡_, refl, sym, ap, ap₂, _∙_}
 use Rattle.rules.proofs.group.damaged.Statement.{statement}
-use Rattle.rules.specs.Limits.{among}
 use Rattle.rules.proofs.group.damaged.Tie as tie
 
--- process i of g is whole
-abbrev wholeIn : Group → ℕ → Bool
-wholeIn g i = whole (g .n) (processAt g i)
+-- process i of g is whole and not too deep
+abbrev fitIn : Group → ℕ → Bool
+fitIn g i = whole (g .n) (processAt g i) && leb (depthAt g i) deepestProcess
 
 or-true : (b : Bool) → (b || true) ≡ true
 or-true true = refl
@@ -53,7 +54,7 @@ module _ (g : Group) where
   unfolding damaged
   by-size a = rw a
 
-  by-all : {sound : Bool} → among 16 (g .n) ≡ true → sound ≡ allOf (wholeIn g) (g .n) → not sound ≡ damaged g
+  by-all : {sound : Bool} → among 16 (g .n) ≡ true → sound ≡ allOf (fitIn g) (g .n) → not sound ≡ damaged g
   unfolding damaged
   by-all a b = rw (a, b)
 
@@ -66,7 +67,7 @@ unfolding among
 too-large m h = ap (λ (b : Bool). leb 1 m && b) (lt-leb m 16 h) ∙ and-false (leb 1 m)
 
 abbrev Inv-loop : tie.InvT-loop
-Inv-loop n words halves bytes flags k₀ sound₀ k sound = (1 ≤ n) × (n ≤ 16) × (k ≤ 16) × (sound ≡ allOf (wholeIn (groupOf n words halves bytes flags)) (min k n))
+Inv-loop n words halves bytes flags k₀ sound₀ k sound = (1 ≤ n) × (n ≤ 16) × (k ≤ 16) × (sound ≡ allOf (fitIn (groupOf n words halves bytes flags)) (min k n))
 
 abbrev μ-loop : tie.MeasureT-loop
 μ-loop n words halves bytes flags k₀ sound₀ k sound = 16 - k
@@ -78,7 +79,7 @@ returns-2 : tie.Need-returns-2 Inv-loop μ-loop
 returns-2 c = by-size _ (too-large _ (c .if2 .taken))
 
 loop-holds : tie.Need-loop-holds Inv-loop μ-loop
-loop-holds c = (omega arith, omega arith, omega arith, sym (ap (allOf (wholeIn _)) (omega arith) ∙ all-none _))
+loop-holds c = (omega arith, omega arith, omega arith, sym (ap (allOf (fitIn _)) (omega arith) ∙ all-none _))
 
 add-i : tie.Need-add-i Inv-loop μ-loop
 add-i c = omega arith
@@ -89,20 +90,25 @@ take-out-requires c κs = omega arith
 whole-requires : tie.Need-whole-requires Inv-loop μ-loop
 whole-requires c κs = omega arith
 
+depth-of-requires : tie.Need-depth-of-requires Inv-loop μ-loop
+depth-of-requires c κs = omega arith
+
 loop-less : tie.Need-loop-less Inv-loop μ-loop
 loop-less c = omega arith
 
 loop-again : tie.Need-loop-again Inv-loop μ-loop
+unfolding depthAt
 loop-again c =
-    let l = c .before .before .before .loop in
-    let n = c .before .before .before .before .before .before .args .n in
-    let w = c .whole .ensures ∙ ap (whole n) (c .before .take-out .ensures n) in
-    (l .inv .0, l .inv .1, omega arith, ap₂ (λ (s w : Bool). s && (w || leb n (l .k))) (l .inv .3) w ∙ more _ n (l .k))
+    let l = c .before .before .before .before .loop in
+    let n = c .before .before .before .before .before .before .before .args .n in
+    let w = c .before .whole .ensures ∙ ap (whole n) (c .before .before .take-out .ensures n) in
+    let f = ap₂ (λ (w : Bool) (d : ℕ). w && leb d deepestProcess) w (c .depth-of .ensures) in
+    (l .inv .0, l .inv .1, omega arith, ap₂ (λ (s w : Bool). s && (w || leb n (l .k))) (l .inv .3) f ∙ more _ n (l .k))
 
 returns-3 : tie.Need-returns-3 Inv-loop μ-loop
 returns-3 c =
     let v = c .before .loop .inv in
-    by-all _ (among-in 16 _ (v .0) (v .1)) (v .3 ∙ ap (allOf (wholeIn _)) (omega arith))
+    by-all _ (among-in 16 _ (v .0) (v .1)) (v .3 ∙ ap (allOf (fitIn _)) (omega arith))
 
 pub damaged-spec : {M : Type 1} → statement M
 damaged-spec =
@@ -116,6 +122,7 @@ damaged-spec =
     add-i
     take-out-requires
     whole-requires
+    depth-of-requires
     loop-less
     loop-again
     returns-3)

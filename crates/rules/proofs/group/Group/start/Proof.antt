@@ -1,36 +1,25 @@
--- `Group::start` meets its contract: the two refusals in their order, then the records and the store. Assumes nothing.
+-- `Group::start` meets its contract: the three refusals in their order, then the records and both stores. Assumes nothing.
 use Rattle.rules.proofs.RowLaws.{among-in}
-use Rattle.rules.specs.Start.{begun, unlessRefusedStart, started}
-use Rattle.rules.specs.Refusals.{row, short, miscounted, startRefusal}
-use Rattle.rules.specs.Answers.{outcome, refused, said, saysApplied}
+use Rattle.rules.specs.Depths.{startRefusal, DeepOutcome, outcome, opened, unlessRefusedStart, started}
+use Rattle.rules.specs.Start.{begun}
+use Rattle.rules.specs.Refusals.{row, short, miscounted}
+use Rattle.rules.specs.Answers.{said, saysApplied, saysRefused}
 use Rattle.rules.specs.Records.{blankGroup}
 use Rattle.rules.specs.Limits.{storeLength, among}
 use Rattle.rules.specs.declared.group.Group.{Group}
 use borrow.Author.Tests.{lt-ltb, le-ltb, lt-leb}
-use lib.ListN.{length}
+use lib.ListN.{length, getD}
 use lib.Dec.{leb}
 use native.Mathlib.Omega.{arith}
 use Prim.Native.Nat.{ℕ, _≤_, _<_}
 use mathlib.Core.List.{List}
 use mathlib.Core.Bool.{Bool, true, false, _&&_, not, and-false}
-use mathlib.Core.Path.{_≡_, refl, ap, ap₂, _∙_}
+use mathlib.Core.Path.{_≡_, refl, ap, _∙_}
 use borrow.Author.Needs.{needs}
 use Rattle.rules.proofs.group.Group.start.Statement.{statement}
 use Rattle.rules.proofs.group.Group.start.Tie as tie
 
-module _ (vs l : List ℕ) where
-  too-short : length l < storeLength → refused (blankGroup 0) l 11 ≡ started vs l
-  unfolding started unlessRefusedStart startRefusal row short
-  too-short h = rw (lt-ltb (length l) storeLength h)
-
-  not-counted : storeLength ≤ length l → miscounted vs ≡ true → refused (blankGroup 0) l 1 ≡ started vs l
-  unfolding started unlessRefusedStart startRefusal row short
-  not-counted h m = rw (le-ltb (length l) storeLength h, m)
-
-  counted : storeLength ≤ length l → miscounted vs ≡ false → begun vs l ≡ started vs l
-  unfolding started unlessRefusedStart startRefusal row short
-  counted h m = rw (le-ltb (length l) storeLength h, m)
-
+module _ (vs : List ℕ) where
   none-given : length vs ≡ 0 → miscounted vs ≡ true
   unfolding miscounted among
   none-given h = ap (λ (b : Bool). not (b && leb (length vs) 16)) (lt-leb 1 (length vs) (omega arith))
@@ -43,26 +32,60 @@ module _ (vs l : List ℕ) where
   unfolding miscounted
   enough h k = ap not (among-in 16 (length vs) (omega arith) k)
 
+module _ (vs l d : List ℕ) where
+  -- refused, over the group g of size 0
+  abbrev refused : Group → ℕ → DeepOutcome
+  refused g k = outcome g l d (saysRefused k)
+
+  too-short : {g : Group} → g ≡ blankGroup 0 → length l < storeLength → refused g 11 ≡ started vs l d
+  unfolding started unlessRefusedStart startRefusal row short
+  too-short e h = ap (λ (g : Group). refused g 11) e ∙ rw (lt-ltb (length l) storeLength h)
+
+  module _ (long : storeLength ≤ length l) where
+    too-few : {g : Group} → g ≡ blankGroup 0 → length d < storeLength → refused g 14 ≡ started vs l d
+    unfolding started unlessRefusedStart startRefusal row short
+    too-few e h = ap (λ (g : Group). refused g 14) e ∙ rw (le-ltb (length l) storeLength long, lt-ltb (length d) storeLength h)
+
+    module _ (deep-long : storeLength ≤ length d) where
+      not-counted : {g : Group} → g ≡ blankGroup 0 → miscounted vs ≡ true → refused g 1 ≡ started vs l d
+      unfolding started unlessRefusedStart startRefusal row short
+      not-counted e m =
+          ap (λ (g : Group). refused g 1) e ∙ rw (le-ltb (length l) storeLength long, le-ltb (length d) storeLength deep-long, m)
+
+      counted : {g : Group} {last deeper : List ℕ} → miscounted vs ≡ false → g ≡ begun vs l .group
+          → (last ≡ begun vs l .store) × (deeper ≡ opened (getD vs 0 0) l d) → outcome g last deeper (saysApplied 1 false) ≡ started vs l d
+      unfolding started unlessRefusedStart startRefusal row short begun
+      counted m e h =
+          (λ t. outcome (e t) (h .0 t) (h .1 t) (saysApplied 1 false))
+          ∙ rw (le-ltb (length l) storeLength long, le-ltb (length d) storeLength deep-long, m)
+
 none-requires : tie.Need-none-requires
 none-requires c κs = search needs
 
 returns : tie.Need-returns
 unfolding said
-returns c = ap (λ (g : Group). refused g (c .before .before .before .before .args .store .now) 11) (c .none .ensures) ∙ too-short _ _ (c .before .if1 .taken)
+returns c = too-short _ _ _ (c .none .ensures) (c .before .if1 .taken)
 
 none-requires-2 : tie.Need-none-requires-2
 none-requires-2 c κs = search needs
 
 returns-2 : tie.Need-returns-2
 unfolding said
-returns-2 c = ap (λ (g : Group). refused g (c .before .before .before .before .before .args .store .now) 1) (c .none2 .ensures) ∙ not-counted _ _ (c .before .before .if1 .left) (none-given _ (c .before .before .before .before .before .args .store .now) (c .before .if2 .taken))
+returns-2 c = too-few _ _ _ (c .before .before .if1 .left) (c .none2 .ensures) (c .before .if2 .taken)
 
 none-requires-3 : tie.Need-none-requires-3
 none-requires-3 c κs = search needs
 
 returns-3 : tie.Need-returns-3
 unfolding said
-returns-3 c = ap (λ (g : Group). refused g (c .before .before .before .before .before .before .args .store .now) 1) (c .none3 .ensures) ∙ not-counted _ _ (c .before .before .before .if1 .left) (too-many _ (c .before .before .before .before .before .before .args .store .now) (c .before .if3 .taken))
+returns-3 c = not-counted _ _ _ (c .before .before .before .if1 .left) (c .before .before .if2 .left) (c .none3 .ensures) (none-given _ (c .before .if3 .taken))
+
+none-requires-4 : tie.Need-none-requires-4
+none-requires-4 c κs = search needs
+
+returns-4 : tie.Need-returns-4
+unfolding said
+returns-4 c = not-counted _ _ _ (c .before .before .before .before .if1 .left) (c .before .before .before .if2 .left) (c .none4 .ensures) (too-many _ (c .before .if4 .taken))
 
 fill-requires : tie.Need-fill-requires
 unfolding blankGroup
@@ -74,15 +97,18 @@ shared-slice-read-begin c = search needs
 begin-requires : tie.Need-begin-requires
 begin-requires c κs = search needs
 
-cast-t26 : tie.Need-cast-t26
-cast-t26 c = search needs
+cast-t31 : tie.Need-cast-t31
+cast-t31 c = search needs
 
 same-length : tie.Need-same-length
 same-length c = search needs
 
-returns-4 : tie.Need-returns-4
+same-length-2 : tie.Need-same-length-2
+same-length-2 c = search needs
+
+returns-5 : tie.Need-returns-5
 unfolding said begun
-returns-4 c = ap₂ (λ (g : Group) (l : List ℕ). outcome g l (saysApplied 1 false)) (c .before .before .before .before .before .fill .ensures) (c .before .before .begin .ensures) ∙ counted _ _ (c .before .before .before .before .before .before .before .before .before .before .before .before .if1 .left) (enough _ (c .before .before .before .before .before .before .before .before .before .before .before .before .before .before .before .args .store .now) (c .before .before .before .before .before .before .before .before .before .before .before .if2 .left) (c .before .before .before .before .before .before .before .before .before .before .if3 .left))
+returns-5 c = counted _ _ _ (c .before .before .before .before .before .before .before .before .before .before .before .before .before .before .before .before .if1 .left) (c .before .before .before .before .before .before .before .before .before .before .before .before .before .before .before .if2 .left) (enough _ (c .before .before .before .before .before .before .before .before .before .before .before .before .before .before .if3 .left) (c .before .before .before .before .before .before .before .before .before .before .before .before .before .if4 .left)) (c .before .before .before .before .before .before .before .before .fill .ensures) (c .before .before .before .before .begin .ensures)
 
 pub start-spec : {M : Type 1} → statement M
 start-spec =
@@ -94,9 +120,12 @@ start-spec =
     returns-2
     none-requires-3
     returns-3
+    none-requires-4
+    returns-4
     fill-requires
     shared-slice-read-begin
     begin-requires
-    cast-t26
+    cast-t31
     same-length
-    returns-4)
+    same-length-2
+    returns-5)

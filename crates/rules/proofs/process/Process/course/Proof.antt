@@ -1,4 +1,5 @@
 -- `Process::course` meets its contract: refused, or the last course. Assumes nothing.
+use Rattle.rules.proofs.CourseLaws.{held-names}
 use Rattle.rules.specs.Parts.{heldRows, heldCourse, unlessHeld, lastCourse}
 use Rattle.rules.specs.Refusals.{isRecover}
 use Rattle.rules.specs.Steps.{delivers}
@@ -12,38 +13,40 @@ use borrow.Author.Needs.{needs}
 use Rattle.rules.proofs.process.Process.course.Statement.{statement}
 use Rattle.rules.proofs.process.Process.course.Tie as tie
 
-module _ (n i e : ℕ) (p : Process) (s : Step) where
+module _ (n i e k : ℕ) (p : Process) (s : Step) where
   -- the rows that are tested
   abbrev rows : ℕ
-  rows = heldRows n (p .up) e (delivers s) (isRecover s)
+  rows = heldRows n (p .up) e k (delivers s) (isRecover s)
 
-  refused : {k : ℕ} → rows ≡ k → ¬ (k ≡ 0) → Refuses k ≡ heldCourse n i e p s
+  refused : {j : ℕ} → rows ≡ j → ¬ (j ≡ 0) → Refuses j ≡ heldCourse n i e k p s
   unfolding heldCourse unlessHeld
-  refused {k} h z = go k h z
+  refused {j} h z = go j h z
     where
-      go : (m : ℕ) → rows ≡ m → ¬ (m ≡ 0) → Refuses m ≡ heldCourse n i e p s
+      go : (m : ℕ) → rows ≡ m → ¬ (m ≡ 0) → Refuses m ≡ heldCourse n i e k p s
       go zero h z = absurd (z refl)
       go (suc m) h z = rw h
 
-  passed : rows ≡ 0 → lastCourse n i e p s ≡ heldCourse n i e p s
+  passed : rows ≡ 0 → lastCourse n i e p s ≡ heldCourse n i e k p s
   unfolding heldCourse unlessHeld
   passed h = rw h
 
 -- what was tested are those rows
-told : (n : ℕ) (up : Bool) (e : ℕ) {d d' b b' : Bool} → d ≡ d' → b ≡ b' → heldRows n up e d b ≡ heldRows n up e d' b'
-told n up e x y = ap₂ (heldRows n up e) x y
+told : (n : ℕ) (up : Bool) (e k : ℕ) {d d' b b' : Bool} → d ≡ d' → b ≡ b' → heldRows n up e k d b ≡ heldRows n up e k d' b'
+told n up e k x y = ap₂ (heldRows n up e k) x y
 
 held-refusal-requires : tie.Need-held-refusal-requires
 held-refusal-requires c κs = search needs
 
 returns : tie.Need-returns
-returns c = refused _ _ _ _ _ (sym (c .before .held-refusal .ensures ∙ told _ _ _ (c .before .before .pre .1) (c .before .before .pre .2))) (c .if1 .taken)
+returns c = refused _ _ _ _ _ _ (sym (c .before .held-refusal .ensures ∙ told _ _ _ _ (c .before .before .pre .1) (c .before .before .pre .2))) (c .if1 .taken)
 
 last-course-requires : tie.Need-last-course-requires
-last-course-requires c κs = (c .before .before .pre .0, sym (c .before .held-refusal .ensures ∙ told _ _ _ (c .before .before .pre .1) (c .before .before .pre .2)) ∙ c .if1 .left)
+last-course-requires c κs =
+    let a = c .before .before .args in
+    (c .before .before .pre .0, held-names (a .n) (a .self .up) (a .entry) (a .depth) (a .step) (c .before .before .pre .0 .high) (sym (c .before .held-refusal .ensures ∙ told _ _ _ _ (c .before .before .pre .1) (c .before .before .pre .2)) ∙ c .if1 .left))
 
 returns-2 : tie.Need-returns-2
-returns-2 c = c .last-course .ensures ∙ passed _ _ _ _ _ (sym (c .before .before .held-refusal .ensures ∙ told _ _ _ (c .before .before .before .pre .1) (c .before .before .before .pre .2)) ∙ c .before .if1 .left)
+returns-2 c = c .last-course .ensures ∙ passed _ _ _ _ _ _ (sym (c .before .before .held-refusal .ensures ∙ told _ _ _ _ (c .before .before .before .pre .1) (c .before .before .before .pre .2)) ∙ c .before .if1 .left)
 
 pub course-spec : {M : Type 1} → statement M
 course-spec = tie.close (tie.spec held-refusal-requires returns last-course-requires returns-2)

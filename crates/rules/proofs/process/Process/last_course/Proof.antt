@@ -1,5 +1,5 @@
 -- `Process::last_course` meets its contract: each kind of step has its own course. Assumes nothing.
-use Rattle.rules.proofs.CourseLaws.{numbers-E, numbers-S, numbers-F, held-names}
+use Rattle.rules.proofs.CourseLaws.{numbers-E, numbers-S, numbers-F}
 use Rattle.rules.specs.Parts.{lastCourse}
 use Rattle.rules.specs.Steps.{delivers}
 use Rattle.rules.specs.declared.course.Course.the-variants.{Takes}
@@ -20,9 +20,7 @@ cast-course-e-2 c = omega (arith, numbers-E _ _ _ _ _ (c .before .before .before
 
 course-e-requires : tie.Need-course-e-requires
 unfolding delivers
-course-e-requires c κs =
-    let a = c .before .before .before .args in
-    omega (arith, numbers-E _ _ _ _ _ (c .before .before .before .pre .0 .high) (c .before .before .before .pre .0 .numbers) (c .before .step .given .1), held-names (a .n) (a .self .up) (a .entry) (a .step) (c .before .before .before .pre .0 .high) (ap delivers (c .before .step .given .1)) (c .before .before .before .pre .1), c .before .before .before .pre .0 .low, c .before .before .before .pre .0 .round)
+course-e-requires c κs = omega (arith, numbers-E _ _ _ _ _ (c .before .before .before .pre .0 .high) (c .before .before .before .pre .0 .numbers) (c .before .step .given .1), c .before .before .before .pre .1 (ap delivers (c .before .step .given .1)), c .before .before .before .pre .0 .low, c .before .before .before .pre .0 .round)
 
 enum-known-step-2 : tie.Need-enum-known-step-2
 enum-known-step-2 c = search needs
@@ -47,9 +45,7 @@ cast-course-f-2 c = omega (arith, numbers-F _ _ _ _ _ (c .before .before .before
 
 course-f-requires : tie.Need-course-f-requires
 unfolding delivers
-course-f-requires c κs =
-    let a = c .before .before .before .args in
-    omega (arith, numbers-F _ _ _ _ _ (c .before .before .before .pre .0 .high) (c .before .before .before .pre .0 .numbers) (c .before .step3 .given .1), held-names (a .n) (a .self .up) (a .entry) (a .step) (c .before .before .before .pre .0 .high) (ap delivers (c .before .step3 .given .1)) (c .before .before .before .pre .1), c .before .before .before .pre .0 .low, c .before .before .before .pre .0 .round)
+course-f-requires c κs = omega (arith, numbers-F _ _ _ _ _ (c .before .before .before .pre .0 .high) (c .before .before .before .pre .0 .numbers) (c .before .step3 .given .1), c .before .before .before .pre .1 (ap delivers (c .before .step3 .given .1)), c .before .before .before .pre .0 .low, c .before .before .before .pre .0 .round)
 
 enum-known-step-4 : tie.Need-enum-known-step-4
 enum-known-step-4 c = search needs

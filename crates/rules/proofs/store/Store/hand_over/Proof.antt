@@ -1,5 +1,7 @@
--- `Store::hand_over` meets its contract: each kind of message is written at its place, with its entry. Assumes nothing.
-use Rattle.rules.specs.Store.{slot, messageRound, handOver, turned, placeOf, entryFor}
+-- `Store::hand_over` meets its contract: each kind of message is written at its place, with its entry and its depth. Assumes nothing.
+use Rattle.rules.specs.Depths.{dated, datedAt}
+use Rattle.rules.specs.Store.{messageRound, handOver, turned, placeOf, entryFor}
+use Rattle.rules.specs.Tally.{bitOf}
 use Rattle.rules.specs.declared.process.Message.{Message}
 use lib.ListN.{getD, set}
 use lib.Dec.{eqb}
@@ -9,19 +11,19 @@ use mathlib.Core.List.{List}
 use mathlib.Core.Path.{_≡_, ap, _∙_}
 use borrow.Author.Needs.{needs}
 use Rattle.rules.proofs.store.Store.hand_over.Statement.{statement}
-use Rattle.rules.specs.Tally.{bitOf}
 use Rattle.rules.proofs.store.Store.hand_over.Tie as tie
 
--- a write at a message's place of its entry hands the message over
-module _ (i : ℕ) (l : List ℕ) where
-  wrote : (m : Message) {last : List ℕ} {sent at e : ℕ}
+-- a write at a message's place of its entry, at a depth, hands the message over
+module _ (i k : ℕ) (l d : List ℕ) where
+  wrote : (m : Message) {last deeper : List ℕ} {sent at e : ℕ}
       → handOver i m l ≡ set l (placeOf i m) (entryFor i m)
+      → dated i m k l d ≡ datedAt (placeOf i m) k l d
       → turned i m l ≡ bitOf (eqb (getD l (placeOf i m) 0) 0)
       → at ≡ placeOf i m
       → e ≡ entryFor i m
-      → (last ≡ set l at e) × (sent ≡ bitOf (eqb (getD l at 0) 0))
-      → (last ≡ handOver i m l) × (sent ≡ turned i m l)
-  wrote m h t a b w = (w .0 ∙ rw (h, a, b), w .1 ∙ rw (t, a))
+      → (last ≡ set l at e) × (deeper ≡ datedAt at k l d) × (sent ≡ bitOf (eqb (getD l at 0) 0))
+      → (last ≡ handOver i m l) × (deeper ≡ dated i m k l d) × (sent ≡ turned i m l)
+  wrote m h g t a b w = (w .0 ∙ rw (h, a, b), w .1 ∙ rw (g, a), w .2 ∙ rw (t, a))
 
 enum-told : tie.Need-enum-told
 enum-told c = search needs
@@ -38,8 +40,8 @@ entry-of-requires c κs = search needs
 write-requires : tie.Need-write-requires
 unfolding messageRound
 write-requires c κs =
-    let m = c .before .before .before .before .message .given .1 in
-    omega (arith, ap messageRound m, c .before .slot .ensures, c .before .before .before .before .before .before .before .pre)
+    let m = c .before .before .before .before .before .message .given .1 in
+    omega (arith, ap messageRound m, c .before .slot .ensures, c .before .before .before .before .before .before .before .before .before .pre)
 
 enum-known-message-2 : tie.Need-enum-known-message-2
 enum-known-message-2 c = search needs
@@ -53,8 +55,8 @@ entry-of-requires-2 c κs = search needs
 write-requires-2 : tie.Need-write-requires-2
 unfolding messageRound
 write-requires-2 c κs =
-    let m = c .before .before .before .before .message2 .given .1 in
-    omega (arith, ap messageRound m, c .before .slot2 .ensures, c .before .before .before .before .before .before .before .pre)
+    let m = c .before .before .before .before .before .message2 .given .1 in
+    omega (arith, ap messageRound m, c .before .slot2 .ensures, c .before .before .before .before .before .before .before .before .before .pre)
 
 enum-known-message-3 : tie.Need-enum-known-message-3
 enum-known-message-3 c = search needs
@@ -68,8 +70,8 @@ entry-of-requires-3 c κs = search needs
 write-requires-3 : tie.Need-write-requires-3
 unfolding messageRound
 write-requires-3 c κs =
-    let m = c .before .before .before .before .message3 .given .1 in
-    omega (arith, ap messageRound m, c .before .slot3 .ensures, c .before .before .before .before .before .before .before .pre)
+    let m = c .before .before .before .before .before .message3 .given .1 in
+    omega (arith, ap messageRound m, c .before .slot3 .ensures, c .before .before .before .before .before .before .before .before .before .pre)
 
 enum-known-message-4 : tie.Need-enum-known-message-4
 enum-known-message-4 c = search needs
@@ -84,58 +86,70 @@ write-requires-4 : tie.Need-write-requires-4
 write-requires-4 c κs = search needs
 
 returns : tie.Need-returns
-unfolding handOver turned
+unfolding handOver dated turned
 returns c =
     let m = c .enum-told .given .1 in
-    (rw m, rw m)
+    (rw m, rw m, rw m)
 
 same-length : tie.Need-same-length
 same-length c = search needs
 
-returns-2 : tie.Need-returns-2
-unfolding handOver turned placeOf entryFor
-returns-2 c =
-    let a = c .before .before .before .before .before .before .before .before .before .before .args in
-    let m = c .before .before .before .before .before .before .before .message .given .1 in
-    let s = c .before .before .before .before .slot .ensures in
-    let e = c .before .before .before .entry-of .ensures in
-    wrote (a .i) (a .store .now) (a .message) (rw m) (rw m) (rw m s) (rw m e) (c .before .before .write .ensures)
-
 same-length-2 : tie.Need-same-length-2
 same-length-2 c = search needs
 
-returns-3 : tie.Need-returns-3
-unfolding handOver turned placeOf entryFor
-returns-3 c =
-    let a = c .before .before .before .before .before .before .before .before .before .before .args in
-    let m = c .before .before .before .before .before .before .before .message2 .given .1 in
-    let s = c .before .before .before .before .slot2 .ensures in
-    let e = c .before .before .before .entry-of2 .ensures in
-    wrote (a .i) (a .store .now) (a .message) (rw m) (rw m) (rw m s) (rw m e) (c .before .before .write2 .ensures)
+returns-2 : tie.Need-returns-2
+unfolding handOver dated turned placeOf entryFor
+returns-2 c =
+    let a = c .before .before .before .before .before .before .before .before .before .before .before .before .before .before .args in
+    let m = c .before .before .before .before .before .before .before .before .before .before .message .given .1 in
+    let s = c .before .before .before .before .before .before .slot .ensures in
+    let e = c .before .before .before .before .before .entry-of .ensures in
+    wrote (a .i) (a .depth) (a .store .now) (a .depths .now) (a .message) (rw m) (rw m) (rw m) (rw m s) (rw m e) (c .before .before .before .before .write .ensures)
 
 same-length-3 : tie.Need-same-length-3
 same-length-3 c = search needs
 
-returns-4 : tie.Need-returns-4
-unfolding handOver turned placeOf entryFor
-returns-4 c =
-    let a = c .before .before .before .before .before .before .before .before .before .before .args in
-    let m = c .before .before .before .before .before .before .before .message3 .given .1 in
-    let s = c .before .before .before .before .slot3 .ensures in
-    let e = c .before .before .before .entry-of3 .ensures in
-    wrote (a .i) (a .store .now) (a .message) (rw m) (rw m) (rw m s) (rw m e) (c .before .before .write3 .ensures)
-
 same-length-4 : tie.Need-same-length-4
 same-length-4 c = search needs
 
+returns-3 : tie.Need-returns-3
+unfolding handOver dated turned placeOf entryFor
+returns-3 c =
+    let a = c .before .before .before .before .before .before .before .before .before .before .before .before .before .before .args in
+    let m = c .before .before .before .before .before .before .before .before .before .before .message2 .given .1 in
+    let s = c .before .before .before .before .before .before .slot2 .ensures in
+    let e = c .before .before .before .before .before .entry-of2 .ensures in
+    wrote (a .i) (a .depth) (a .store .now) (a .depths .now) (a .message) (rw m) (rw m) (rw m) (rw m s) (rw m e) (c .before .before .before .before .write2 .ensures)
+
+same-length-5 : tie.Need-same-length-5
+same-length-5 c = search needs
+
+same-length-6 : tie.Need-same-length-6
+same-length-6 c = search needs
+
+returns-4 : tie.Need-returns-4
+unfolding handOver dated turned placeOf entryFor
+returns-4 c =
+    let a = c .before .before .before .before .before .before .before .before .before .before .before .before .before .before .args in
+    let m = c .before .before .before .before .before .before .before .before .before .before .message3 .given .1 in
+    let s = c .before .before .before .before .before .before .slot3 .ensures in
+    let e = c .before .before .before .before .before .entry-of3 .ensures in
+    wrote (a .i) (a .depth) (a .store .now) (a .depths .now) (a .message) (rw m) (rw m) (rw m) (rw m s) (rw m e) (c .before .before .before .before .write3 .ensures)
+
+same-length-7 : tie.Need-same-length-7
+same-length-7 c = search needs
+
+same-length-8 : tie.Need-same-length-8
+same-length-8 c = search needs
+
 returns-5 : tie.Need-returns-5
-unfolding handOver turned placeOf entryFor
+unfolding handOver dated turned placeOf entryFor
 returns-5 c =
-    let a = c .before .before .before .before .before .before .before .before .before .before .args in
-    let m = c .before .before .before .before .before .before .before .message4 .given .1 in
-    let s = c .before .before .before .before .decision-slot .ensures in
-    let e = c .before .before .before .entry-of4 .ensures in
-    wrote (a .i) (a .store .now) (a .message) (rw m) (rw m) (rw m s) (rw m e) (c .before .before .write4 .ensures)
+    let a = c .before .before .before .before .before .before .before .before .before .before .before .before .before .before .args in
+    let m = c .before .before .before .before .before .before .before .before .before .before .message4 .given .1 in
+    let s = c .before .before .before .before .before .before .decision-slot .ensures in
+    let e = c .before .before .before .before .before .entry-of4 .ensures in
+    wrote (a .i) (a .depth) (a .store .now) (a .depths .now) (a .message) (rw m) (rw m) (rw m) (rw m s) (rw m e) (c .before .before .before .before .write4 .ensures)
 
 pub hand-over-spec : {M : Type 1} → statement M
 hand-over-spec =
@@ -160,10 +174,14 @@ hand-over-spec =
     write-requires-4
     returns
     same-length
-    returns-2
     same-length-2
-    returns-3
+    returns-2
     same-length-3
-    returns-4
     same-length-4
+    returns-3
+    same-length-5
+    same-length-6
+    returns-4
+    same-length-7
+    same-length-8
     returns-5)

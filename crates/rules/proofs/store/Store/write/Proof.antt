@@ -1,11 +1,24 @@
 -- `Store::write` meets its contract: the old entry is 0 or it is not. Assumes nothing.
-
+use Rattle.rules.specs.Depths.{datedIf}
+use Rattle.rules.specs.Tally.{bitOf}
 use borrow.Author.Tests.{eq-eqb, ne-eqb}
-use mathlib.Core.Path.{refl, sym, ap}
+use lib.Dec.{eqb}
+use lib.ListN.{getD, set}
+use Prim.Native.Nat.{ℕ}
+use mathlib.Core.List.{List}
+use mathlib.Core.Path.{_≡_, refl, sym, ap}
 use borrow.Author.Needs.{needs}
 use Rattle.rules.proofs.store.Store.write.Statement.{statement}
-use Rattle.rules.specs.Tally.{bitOf}
 use Rattle.rules.proofs.store.Store.write.Tie as tie
+
+module _ (l d : List ℕ) (at k : ℕ) where
+  kept : ¬ (getD l at 0 ≡ 0) → d ≡ datedIf (eqb (getD l at 0) 0) at k d
+  unfolding datedIf
+  kept h = rw (ne-eqb (getD l at 0) 0 h)
+
+  first : getD l at 0 ≡ 0 → set d at k ≡ datedIf (eqb (getD l at 0) 0) at k d
+  unfolding datedIf
+  first h = rw (eq-eqb (getD l at 0) 0 h)
 
 mul-old : tie.Need-mul-old
 mul-old c = search needs
@@ -23,13 +36,22 @@ same-length : tie.Need-same-length
 same-length c = search needs
 
 returns : tie.Need-returns
-returns c = (refl, sym (ap bitOf (eq-eqb _ 0 (c .if1 .taken))))
+returns c = (refl, kept (c .before .before .args .store .now) (c .before .before .args .depths .now) (c .before .before .args .at) (c .before .before .args .depth) (c .if1 .taken), sym (ap bitOf (ne-eqb _ 0 (c .if1 .taken))))
+
+mul-depths : tie.Need-mul-depths
+mul-depths c = search needs
+
+slice-write-depths : tie.Need-slice-write-depths
+slice-write-depths c = search needs
 
 same-length-2 : tie.Need-same-length-2
 same-length-2 c = search needs
 
+same-length-3 : tie.Need-same-length-3
+same-length-3 c = search needs
+
 returns-2 : tie.Need-returns-2
-returns-2 c = (refl, sym (ap bitOf (ne-eqb _ 0 (c .if1 .left))))
+returns-2 c = (refl, first (c .before .before .args .store .now) (c .before .before .args .depths .now) (c .before .before .args .at) (c .before .before .args .depth) (c .if1 .left), sym (ap bitOf (eq-eqb _ 0 (c .if1 .left))))
 
 pub write-spec : {M : Type 1} → statement M
 write-spec =
@@ -41,5 +63,8 @@ write-spec =
     slice-write-store
     same-length
     returns
+    mul-depths
+    slice-write-depths
     same-length-2
+    same-length-3
     returns-2)

@@ -1,0 +1,108 @@
+-- The laws of depths: the table with the request's rows passes only what the table without them does, and what a course that is taken says. Assumes nothing.
+use mathlib.Core.Path.{_≡_, refl, sym, ap, subst, _∙_}
+use mathlib.Core.Bool.{Bool, true, false, _&&_, not}
+use mathlib.Core.List.{List}
+use Prim.Native.Nat.{ℕ, zero, suc, _≤_}
+use native.Mathlib.Omega.{arith}
+use lib.Dec.{leb}
+use borrow.Author.Tests.{leb-true, le-leb, not-false}
+use Rattle.rules.specs.declared.group.Group.{Group}
+use Rattle.rules.specs.declared.process.Next.{Next}
+use Rattle.rules.specs.declared.step.Step.{Step}
+use Rattle.rules.specs.declared.course.Course.{Course}
+use Rattle.rules.specs.declared.course.Course.the-variants.{Idles, Refuses, Takes}
+use Rattle.rules.specs.Limits.{greatestSize, deepestProcess, among}
+use Rattle.rules.specs.Records.{processAt, depthAt}
+use Rattle.rules.specs.Steps.{takerOf, isCut, eventOf}
+use Rattle.rules.specs.Idle.{idle}
+use Rattle.rules.specs.Refusals.{allOf, short, whole, refusalBy}
+use Rattle.rules.specs.Refusals as base
+use Rattle.rules.specs.Step.{idles, orIdle, unlessRefused}
+use Rattle.rules.specs.Depths.{damaged, tooDeep, refusal, course}
+use Rattle.rules.proofs.BoolLaws.{and-left, and-right, and-both}
+use Rattle.rules.proofs.AllLaws.{all-each, all-every}
+use Rattle.rules.proofs.RowLaws.{among-true, among-in}
+use Rattle.rules.proofs.SoundLaws.{Sound, sound-facts, facts-sound, whole-facts, facts-whole, Passed, PassedBy, by-passed, Taking, Fine, passed-fine}
+
+-- ---- a sound group whose processes are not too deep
+
+module _ (g : Group) where
+  -- what is tested of process i
+  fit-at : ℕ → Bool
+  fit-at i = whole (g .n) (processAt g i) && leb (depthAt g i) deepestProcess
+
+  pub deep-facts : damaged g ≡ false → Sound g × ((i : ℕ) → 1 ≤ i → i ≤ g .n → depthAt g i ≤ deepestProcess)
+  unfolding damaged fit-at
+  deep-facts e =
+      let both = not-false (among greatestSize (g .n) && allOf fit-at (g .n)) e in
+      let sized = among-true greatestSize (g .n) (and-left (among greatestSize (g .n)) (allOf fit-at (g .n)) both) in
+      let all = and-right (among greatestSize (g .n)) (allOf fit-at (g .n)) both in
+      let each : (i : ℕ) → 1 ≤ i → i ≤ g .n → (whole (g .n) (processAt g i) && leb (depthAt g i) deepestProcess) ≡ true =
+      λ i a b. all-each fit-at (g .n) i a b all in (
+        record {
+          low = sized .0;
+          high = sized .1;
+          each = λ i a b. whole-facts (g .n) (processAt g i) (and-left (whole (g .n) (processAt g i)) (leb (depthAt g i) deepestProcess) (each i a b));
+        },
+        λ i a b. leb-true (depthAt g i) deepestProcess (and-right (whole (g .n) (processAt g i)) (leb (depthAt g i) deepestProcess) (each i a b)),
+      )
+
+  pub facts-deep : Sound g → ((i : ℕ) → 1 ≤ i → i ≤ g .n → depthAt g i ≤ deepestProcess) → damaged g ≡ false
+  unfolding damaged fit-at
+  facts-deep h k =
+      let sized = among-in greatestSize (g .n) (h .low) (h .high) in
+      let all = all-every fit-at (g .n) (λ i a b. and-both (whole (g .n) (processAt g i)) (leb (depthAt g i) deepestProcess) (facts-whole (g .n) (processAt g i) (h .each i a b)) (le-leb (depthAt g i) deepestProcess (k i a b))) in
+      ap not (and-both (among greatestSize (g .n)) (allOf fit-at (g .n)) sized all)
+
+-- it is sound without its depths
+pub deep-sound : (g : Group) → damaged g ≡ false → base.damaged g ≡ false
+deep-sound g e = facts-sound g (deep-facts g e .0)
+
+-- ---- the table with the request's rows
+
+-- what it means that no row refuses
+abbrev pub DeepPassed : Group → List ℕ → List ℕ → Step → Type 0
+DeepPassed g l d s = PassedBy (short d) (damaged g) (tooDeep d s) g l s
+
+pub deep-passed : (g : Group) (l d : List ℕ) (s : Step) → refusal g l d s ≡ 0 → DeepPassed g l d s
+unfolding refusal
+deep-passed g l d s e = by-passed (short d) (damaged g) (tooDeep d s) g l s e
+
+-- then none of the table without depths does
+pub passed-before : (g : Group) (l d : List ℕ) (s : Step) → DeepPassed g l d s → Passed g l s
+passed-before g l d s h =
+    record {
+      long = h .long;
+      sound = deep-sound g (h .sound);
+      known = h .known;
+      early = h .early;
+      up = h .up;
+      sent = h .sent;
+      named = h .named;
+      possible = h .possible;
+      not-many = h .not-many;
+      within-rounds = h .within-rounds;
+    }
+
+-- the process of a course is the one that takes the step
+takes-taker : (g : Group) (l : List ℕ) (s : Step) {i : ℕ} {x : Next} (t c : Bool)
+    → orIdle t c (takerOf s) (processAt g (takerOf s)) (eventOf g l s) ≡ Takes i x → i ≡ takerOf s
+unfolding orIdle idles
+takes-taker g l s true true e = cc
+takes-taker g l s true false e = let y : _≡_ {A = ℕ} 0 1 = cc in absurd (omega arith)
+takes-taker g l s false c e = cc
+
+-- a course that is taken
+pub course-takes : (g : Group) (l d : List ℕ) (s : Step) {i : ℕ} {x : Next} → course g l d s ≡ Takes i x → Taking (g .n) i x × DeepPassed g l d s × (i ≡ takerOf s)
+unfolding course unlessRefused
+course-takes g l d s {i} {x} e = go (refusal g l d s) refl
+  where
+    go : (k : ℕ) → refusal g l d s ≡ k → Taking (g .n) i x × DeepPassed g l d s × (i ≡ takerOf s)
+    go zero z =
+        let p = deep-passed g l d s z in
+        let t : orIdle (idle g s) (isCut s) (takerOf s) (processAt g (takerOf s)) (eventOf g l s) ≡ Takes i x = ap (λ (k : ℕ). unlessRefused k g l s) (sym z) ∙ e in
+        (subst (λ (c : Course). Fine (g .n) c) t (passed-fine g l s (passed-before g l d s p) (idle g s) (isCut s) refl), p, takes-taker g l s (idle g s) (isCut s) t)
+    go (suc k) z =
+        let t : Refuses (suc k) ≡ Takes i x = ap (λ (k : ℕ). unlessRefused k g l s) (sym z) ∙ e in
+        let y : _≡_ {A = ℕ} 0 1 = cc in
+        absurd (omega arith)

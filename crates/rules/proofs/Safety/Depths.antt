@@ -1,0 +1,519 @@
+-- A run with depths: with the depths forgotten it is the run of before; and no depth is above the number of sent entries. Assumes nothing.
+use mathlib.Core.Path.{_≡_, refl, sym, ap, ap₂, subst, _∙_}
+use mathlib.Core.Bool.{Bool, true, false, _&&_, not}
+use mathlib.Core.List.{List, [], _∷_, _++_}
+use mathlib.Core.Logic.{_≢_}
+use Prim.Native.Nat.{ℕ, zero, suc, _+_, _≤_, _<_}
+use native.Mathlib.Decide.{ℕ-discrete}
+use native.Mathlib.Nat.{le-trans}
+use native.Mathlib.Omega.{arith}
+use lib.Dec.{eqb, ltb}
+use lib.ListN.{length, getD, set, length-set}
+use borrow.Author.Tests.{le-ltb, ltb-false, eqb-true, eqb-false}
+use Rattle.rules.specs.declared.group.Group.{Group}
+use Rattle.rules.specs.declared.process.Process.{Process}
+use Rattle.rules.specs.declared.process.Message.{Message}
+use Rattle.rules.specs.declared.process.Message.the-variants.{Nothing, E, S, F, Decision}
+use Rattle.rules.specs.declared.process.Next.{Next}
+use Rattle.rules.specs.declared.step.Step.{Step}
+use Rattle.rules.specs.declared.course.Course.{Course}
+use Rattle.rules.specs.declared.course.Course.the-variants.{Idles, Refuses, Takes}
+use Rattle.rules.specs.Limits.{greatestSize, lastRound, storeLength, deepestMessage, deepestProcess, among}
+use Rattle.rules.specs.Tally.{bitOf}
+use Rattle.rules.specs.Records.{processAt, withProcess, depthAt, withDepth, Sized}
+use Rattle.rules.specs.Store.{placeOf, messageRound, handOver, turned, cleared, sentBit, sentIn}
+use Rattle.rules.specs.Answers.{Said, saysApplied}
+use Rattle.rules.specs.Steps.{takerOf, numbersOf, delivers, slotOf, isCut, eventOf}
+use Rattle.rules.specs.Idle.{idle}
+use Rattle.rules.specs.Refusals.{row, every, short, miscounted, strange, late, refusalBy}
+use Rattle.rules.specs.Refusals as table
+use Rattle.rules.specs.Start.{startedTo, firstMessage, begun}
+use Rattle.rules.specs.Step.{idles, orIdle, unlessRefused, handOvers, sentBy, decidesNow}
+use Rattle.rules.specs.Step as base
+use Rattle.rules.specs.Parts.{numberRows, Ready}
+use Rattle.rules.specs.Depths.{depthIn, raises, raised, depthAfter, datedIf, dated, datedBoth, damaged, tooDeep, refusal, DeepOutcome, opened, unlessRefusedStart, startRefusal, started, course, deepened, datedBy, settled, stepped}
+use Rattle.rules.specs.Run.{State}
+use Rattle.rules.specs.Run as run
+use Rattle.rules.specs.Safety.{Begins, Of}
+use Rattle.rules.specs.Safety as safety
+use Rattle.rules.specs.DepthRun.{DeepState, stateOf, startState, next, after, answers, DeepBegins, at, depthOf, messageDepth, EveryRun, forgetting, forgotten, DepthsChangeNothing, AnswersStay, DepthsFit, NeverFourteen, PastDepthsKept}
+use Rattle.rules.proofs.BoolLaws.{and-left, and-right}
+use Rattle.rules.proofs.StoreLaws.{IsMessage, place-lt, own, other, handOver-length, handOver-past, opened-sent, opened-length, cleared-length, cleared-below, cleared-past}
+use Rattle.rules.proofs.RowLaws.{among-in}
+use Rattle.rules.proofs.GroupLaws.{with-size, sized-with, sized-started, started-size}
+use Rattle.rules.proofs.SoundLaws.{Whole, Sound, sound-facts, facts-sound, Taking, Fine, course-fine, overs-sent}
+use Rattle.rules.proofs.DepthLaws.{facts-deep, deep-sound, DeepPassed, course-takes}
+use Rattle.rules.proofs.ForgetLaws.{process-deep, depth-put, depth-kept, sized-deep, depth-with, process-forgets, sized-forgets, depth-forgets, forget-with, forget-deep, forget-started, depth-started}
+use Rattle.rules.proofs.CourseLaws.{numbers-refuse, held-course, taker-low, place-low}
+use Rattle.rules.proofs.Safety.Basics.{Basic, basic, basic-start, basic-next, not-refused, start-is}
+use Rattle.rules.proofs.Safety.Cases.{never}
+use Rattle.rules.proofs.Safety.Sound.{never-two-nor-eleven}
+
+-- ---- one message that is dated
+
+-- what is true of the depths as they are, with nothing sent, and of those with the depth written where the entry was 0, is true after the handing over
+pub dating : (P : List ℕ → ℕ → Type 0) (i : ℕ) (m : Message) (k : ℕ) (l d : List ℕ) → P d 0
+    → (IsMessage m → getD l (placeOf i m) 0 ≡ 0 → P (set d (placeOf i m) k) 1)
+    → P (dated i m k l d) (turned i m l)
+unfolding dated turned datedIf
+dating P i m k l d old new = go m new
+  where
+    at-place : (m : Message) (b : Bool) → eqb (getD l (placeOf i m) 0) 0 ≡ b → (getD l (placeOf i m) 0 ≡ 0 → P (set d (placeOf i m) k) 1)
+        → P (datedIf b (placeOf i m) k d) (bitOf b)
+    at-place m true e new = new (eqb-true (getD l (placeOf i m) 0) 0 e)
+    at-place m false e new = old
+
+    go : (m : Message) → (IsMessage m → getD l (placeOf i m) 0 ≡ 0 → P (set d (placeOf i m) k) 1) → P (dated i m k l d) (turned i m l)
+    go Nothing new = old
+    go (E r q v) new = at-place (E r q v) _ refl (new tt)
+    go (S r) new = at-place (S r) _ refl (new tt)
+    go (F r q v) new = at-place (F r q v) _ refl (new tt)
+    go (Decision v) new = at-place (Decision v) _ refl (new tt)
+
+module _ (i : ℕ) (m : Message) (k : ℕ) (l d : List ℕ) where
+  pub dated-length : length (dated i m k l d) ≡ length d
+  dated-length = dating (λ (e : List ℕ) (t : ℕ). length e ≡ length d) i m k l d refl (λ is z. length-set d (placeOf i m) k)
+
+  -- at every other place, and where the entry was sent, the depth stays
+  pub dated-other : (q : ℕ) → q ≢ placeOf i m → getD (dated i m k l d) q 0 ≡ getD d q 0
+  dated-other q ne = dating (λ (e : List ℕ) (t : ℕ). getD e q 0 ≡ getD d q 0) i m k l d refl (λ is z. other d (placeOf i m) k q ne)
+
+  -- it is at most what bounds the others, and what turned
+  dated-bound : (q b : ℕ) → placeOf i m < length d → getD d q 0 + 1 ≤ b → k ≤ b → getD (dated i m k l d) q 0 + 1 ≤ b + turned i m l
+  dated-bound q b lt old new =
+      dating (λ (e : List ℕ) (t : ℕ). getD e q 0 + 1 ≤ b + t) i m k l d (omega arith) (λ is z. go (ℕ-discrete q (placeOf i m)))
+    where
+      go : Dec (q ≡ placeOf i m) → getD (set d (placeOf i m) k) q 0 + 1 ≤ b + 1
+      go (yes e) = omega (arith, ap (λ (p : ℕ). getD (set d (placeOf i m) k) p 0) e, own d (placeOf i m) k lt)
+      go (no ne) = omega (arith, other d (placeOf i m) k q ne)
+
+-- ---- the count of sent entries is at most their number
+
+sent-most : (l : List ℕ) (n : ℕ) → sentIn l n ≤ n
+unfolding sentIn
+sent-most [] n = omega arith
+sent-most (e ∷ l) zero = omega arith
+sent-most (zero ∷ l) (suc n) = omega (arith, sent-most l n)
+sent-most (suc e ∷ l) (suc n) = omega (arith, sent-most l n)
+
+-- ---- what every state of a run is
+
+pub record DeepBasic (vs : List ℕ) (a : DeepState) : Type 0 where
+  pub basic : Basic vs (forgotten a)
+  pub sized : Sized (a .group)
+  pub deep-long : storeLength ≤ length (a .depths)
+  pub messages : (k : ℕ) → k < storeLength → messageDepth a k + 1 ≤ sentIn (a .store) storeLength
+  pub processes : (i : ℕ) → 1 ≤ i → i ≤ a .group .n → depthOf a i ≤ sentIn (a .store) storeLength
+
+-- the rows of the table do not look past 3 and 4 where one of them refuses
+rows-same : (t u w : Bool) (g : Group) (l : List ℕ) (s : Step) → (numberRows (g .n) s ≡ 0 → w ≡ false) → refusalBy t u w g l s ≡ refusalBy t u false g l s
+unfolding refusalBy numberRows strange row
+rows-same t u w g l s h = go (not (every (among (g .n)) (numbersOf s))) (late s) refl refl
+  where
+    go : (x y : Bool) → not (every (among (g .n)) (numbersOf s)) ≡ x → late s ≡ y → refusalBy t u w g l s ≡ refusalBy t u false g l s
+    go true y e f = rw e
+    go false true e f = rw (e, f)
+    go false false e f = ap (λ (v : Bool). refusalBy t u v g l s) (h (rw (e, f)))
+
+module _ (vs : List ℕ) (a : DeepState) (h : DeepBasic vs a) where
+  -- the group, sound with and without its depths
+  pub deep-size : a .group .n ≡ length vs
+  unfolding forgetting
+  deep-size = h .basic .size
+
+  pub deep-few : a .group .n ≤ greatestSize
+  unfolding forgetting
+  deep-few = sound-facts (forgetting (a .group)) (h .basic .sound) .high
+
+  pub deep-whole : Sound (a .group)
+  unfolding forgetting
+  deep-whole =
+      let f = sound-facts (forgetting (a .group)) (h .basic .sound) in
+      record {
+        low = f .low;
+        high = f .high;
+        each = λ i lo hi.
+            subst (λ (p : Process). Whole (a .group .n) p) (process-forgets (a .group) i (h .sized) (le-trans hi (f .high))) (f .each i lo hi);
+      }
+
+  pub deep-ready : Ready (a .group) (a .store) (a .depths)
+  deep-ready =
+      record {
+        long = h .basic .long;
+        deep-long = h .deep-long;
+        sound = facts-deep (a .group) deep-whole (λ i lo hi. omega (arith, h .processes i lo hi, sent-most (a .store) storeLength));
+      }
+
+  forgotten-ready : Ready (forgetting (a .group)) (a .store) (a .depths)
+  forgotten-ready =
+      let f = sound-facts (forgetting (a .group)) (h .basic .sound) in
+      record {
+        long = h .basic .long;
+        deep-long = h .deep-long;
+        sound =
+            facts-deep (forgetting (a .group)) f
+            (λ i lo hi. omega (arith, depth-forgets (a .group) i (h .sized) lo (le-trans hi (f .high))));
+      }
+
+  -- no delivered message is too deep
+  pub not-deep : (s : Step) → numberRows (a .group .n) s ≡ 0 → tooDeep (a .depths) s ≡ false
+  unfolding tooDeep depthIn
+  not-deep s z =
+      let lt = place-low (a .group .n) s deep-few z in
+      let le : getD (a .depths) (slotOf s) 0 ≤ deepestMessage = omega (arith, h .messages (slotOf s) lt, sent-most (a .store) storeLength) in
+      go (delivers s) le
+    where
+      go : (t : Bool) → getD (a .depths) (slotOf s) 0 ≤ deepestMessage → (t && ltb deepestMessage (getD (a .depths) (slotOf s) 0)) ≡ false
+      go true le = le-ltb deepestMessage (getD (a .depths) (slotOf s) 0) le
+      go false le = refl
+
+  -- the new rows of the table do not refuse
+  same-refusal : (g : Group) (s : Step) → g .n ≡ a .group .n → damaged g ≡ false → refusal g (a .store) (a .depths) s ≡ table.refusal g (a .store) s
+  unfolding refusal table.refusal short
+  same-refusal g s e f =
+      let l = a .store in
+      rows-same (ltb (length (a .depths)) storeLength) (damaged g) (tooDeep (a .depths) s) g l s (λ z. not-deep s (ap (λ (n : ℕ). numberRows n s) (sym e) ∙ z))
+      ∙ ap₂ (λ (t u : Bool). refusalBy t u false g l s) (le-ltb (length (a .depths)) storeLength (h .deep-long)) (f ∙ sym (deep-sound g f))
+
+  -- the course is that of the group without depths
+  pub course-same : (s : Step) → course (a .group) (a .store) (a .depths) s ≡ base.course (forgetting (a .group)) (a .store) s
+  unfolding course base.course forgetting
+  course-same s =
+      go (numberRows (a .group .n) s) refl
+      ∙ ap (λ (k : ℕ). unlessRefused k (forgetting (a .group)) (a .store) s) (same-refusal (forgetting (a .group)) s refl (forgotten-ready .sound))
+    where
+      go : (k : ℕ) → numberRows (a .group .n) s ≡ k → course (a .group) (a .store) (a .depths) s ≡ course (forgetting (a .group)) (a .store) (a .depths) s
+      go zero z =
+          let t = taker-low (a .group .n) s z in
+          sym (held-course (a .group) (a .store) (a .depths) s deep-ready z refl refl refl (process-forgets (a .group) (takerOf s) (h .sized) (le-trans (t .1) deep-few)))
+          ∙ held-course (forgetting (a .group)) (a .store) (a .depths) s forgotten-ready z refl refl refl refl
+      go (suc k) z =
+          sym (numbers-refuse (a .group) (a .store) (a .depths) s deep-ready z (λ b. omega arith))
+          ∙ numbers-refuse (forgetting (a .group)) (a .store) (a .depths) s forgotten-ready z (λ b. omega arith)
+
+  pub deep-fine : (s : Step) → Fine (a .group .n) (course (a .group) (a .store) (a .depths) s)
+  unfolding forgetting
+  deep-fine s = subst (λ (c : Course). Fine (a .group .n) c) (sym (course-same s)) (course-fine (forgetting (a .group)) (a .store) s)
+
+-- ---- the outcome of a course, with the depths forgotten
+
+record Forgets (g : Group) (l : List ℕ) (k : ℕ) (c : Course) : Type 0 where
+  group : forgetting (deepened k c (base.settled g l c .group)) ≡ base.settled (forgetting g) l c .group
+  store : base.settled g l c .store ≡ base.settled (forgetting g) l c .store
+  says : base.settled g l c .says ≡ base.settled (forgetting g) l c .says
+
+settled-forgets : (g : Group) (l : List ℕ) (k : ℕ) (c : Course) → Sized g → Fine (g .n) c → Forgets g l k c
+unfolding deepened base.settled
+settled-forgets g l k Idles s f = record { group = refl; store = refl; says = refl }
+settled-forgets g l k (Refuses n) s f = record { group = refl; store = refl; says = refl }
+settled-forgets g l k (Takes i x) s f =
+    record {
+      group = forget-deep (withProcess g i (x .process)) i k ∙ forget-with g i (x .process) s (f .low) (f .small);
+      store = refl;
+      says =
+          ap (λ (p : Process). saysApplied (sentBy i x l) (decidesNow p (x .process)))
+          (sym (process-forgets g i s (f .small)));
+    }
+
+module _ (vs : List ℕ) (a : DeepState) (h : DeepBasic vs a) (s : Step) where
+  forgets-at : Forgets (a .group) (a .store) (depthAfter (a .group) (a .depths) s) (course (a .group) (a .store) (a .depths) s)
+  forgets-at = settled-forgets (a .group) (a .store) (depthAfter (a .group) (a .depths) s) (course (a .group) (a .store) (a .depths) s) (h .sized) (deep-fine vs a h s)
+
+  -- a step with depths is the step of before, with the depths forgotten
+  pub next-forgets : forgotten (next a s) ≡ run.next (forgotten a) s
+  unfolding next stepped settled run.next base.stepped
+  next-forgets =
+      let e = course-same vs a h s in
+      λ t.
+      record {
+        group = (forgets-at .group ∙ ap (λ (c : Course). base.settled (forgetting (a .group)) (a .store) c .group) e) t;
+        store = (forgets-at .store ∙ ap (λ (c : Course). base.settled (forgetting (a .group)) (a .store) c .store) e) t;
+      }
+
+  pub says-forgets : stepped (a .group) (a .store) (a .depths) s .says ≡ base.stepped (forgetting (a .group)) (a .store) s .says
+  unfolding stepped settled base.stepped
+  says-forgets = forgets-at .says ∙ ap (λ (c : Course). base.settled (forgetting (a .group)) (a .store) c .says) (course-same vs a h s)
+
+  -- the depth that a process gets is at most the count of sent entries
+  raised-most : (t : Bool) (m k b : ℕ) → (t ≡ true → m + 1 ≤ b) → k ≤ b → raised t m k ≤ b
+  unfolding raised
+  raised-most true m k b le lo = omega (arith, le refl)
+  raised-most false m k b le lo = lo
+
+  -- what is kept by every course, and by the one that is taken
+  record Grown (c : Course) (k : ℕ) : Type 0 where
+    sized : Sized (settled (a .group) (a .store) (a .depths) k c .group)
+    deep-long : storeLength ≤ length (settled (a .group) (a .store) (a .depths) k c .depths)
+    messages : (q : ℕ) → q < storeLength → getD (settled (a .group) (a .store) (a .depths) k c .depths) q 0 + 1 ≤ sentIn (settled (a .group) (a .store) (a .depths) k c .store) storeLength
+    processes : (i : ℕ) → 1 ≤ i → i ≤ a .group .n → depthAt (settled (a .group) (a .store) (a .depths) k c .group) i ≤ sentIn (settled (a .group) (a .store) (a .depths) k c .store) storeLength
+
+  grown : (c : Course) (k : ℕ) → Fine (a .group .n) c → ((i : ℕ) (x : Next) → c ≡ Takes i x → k ≤ sentIn (a .store) storeLength) → Grown c k
+  unfolding settled base.settled deepened datedBy datedBoth sentBy
+  grown Idles k f le = record { sized = h .sized; deep-long = h .deep-long; messages = h .messages; processes = h .processes }
+  grown (Refuses n) k f le = record { sized = h .sized; deep-long = h .deep-long; messages = h .messages; processes = h .processes }
+  grown (Takes i x) k f most =
+      record {
+        sized = sized-deep (withProcess (a .group) i (x .process)) i k (sized-with (a .group) i (x .process) (h .sized));
+        deep-long = omega (arith, both-length, h .deep-long);
+        messages = bound;
+        processes = λ j lo hi. go j lo hi (ℕ-discrete j i);
+      }
+    where
+      le : k ≤ sentIn (a .store) storeLength
+      le = most i x refl
+
+      l : List ℕ
+      l = a .store
+
+      once : List ℕ
+      once = handOver i (x .first) l
+
+      dates : List ℕ
+      dates = dated i (x .first) k l (a .depths)
+
+      both-length : length (datedBoth i x k l (a .depths)) ≡ length (a .depths)
+      both-length = dated-length i (x .second) k once dates ∙ dated-length i (x .first) k l (a .depths)
+
+      more : sentIn (handOvers i x l) storeLength ≡ sentIn l storeLength + sentBy i x l
+      more = overs-sent (a .group .n) i x l f (h .basic .long)
+
+      bound : (q : ℕ) → q < storeLength → getD (datedBoth i x k l (a .depths)) q 0 + 1 ≤ sentIn (handOvers i x l) storeLength
+      bound q lt =
+          let one = dated-bound i (x .first) k l (a .depths) q (sentIn l storeLength) (omega (arith, place-lt i (x .first) (f .small) (f .first), h .deep-long)) (h .messages q lt) le in
+          let two = dated-bound i (x .second) k once dates q (sentIn l storeLength + turned i (x .first) l) (omega (arith, place-lt i (x .second) (f .small) (f .second), dated-length i (x .first) k l (a .depths), h .deep-long)) one (omega (arith, le)) in
+          omega (arith, two, more)
+
+      go : (j : ℕ) → 1 ≤ j → j ≤ a .group .n → Dec (j ≡ i) → depthAt (withDepth (withProcess (a .group) i (x .process)) i k) j ≤ sentIn (handOvers i x l) storeLength
+      go j lo hi (yes e) =
+          omega (
+            arith,
+            ap (depthAt (withDepth (withProcess (a .group) i (x .process)) i k)) e,
+            depth-put (withProcess (a .group) i (x .process)) i k (sized-with (a .group) i (x .process) (h .sized)) (f .low) (f .small),
+            le,
+            more,
+          )
+      go j lo hi (no ne) =
+          omega (
+            arith,
+            depth-kept (withProcess (a .group) i (x .process)) i k j (f .low) lo ne,
+            depth-with (a .group) i (x .process) j (f .small),
+            h .processes j lo hi,
+            more,
+          )
+
+  -- the depth that a process gets from a step that it takes
+  after-most : (i : ℕ) (x : Next) → course (a .group) (a .store) (a .depths) s ≡ Takes i x → depthAfter (a .group) (a .depths) s ≤ sentIn (a .store) storeLength
+  unfolding depthAfter depthIn numberRows strange row
+  after-most i x e =
+      let t = course-takes (a .group) (a .store) (a .depths) s e in
+      let numbers : numberRows (a .group .n) s ≡ 0 = rw (t .1 .known, t .1 .early) in
+      let to = taker-low (a .group .n) s numbers in
+      raised-most (raises (a .group) s) (getD (a .depths) (slotOf s) 0) (depthAt (a .group) (takerOf s)) (sentIn (a .store) storeLength)
+      (λ r. h .messages (slotOf s) (place-low (a .group .n) s (deep-few vs a h) numbers))
+      (h .processes (takerOf s) (to .0) (to .1))
+
+  grown-step : Grown (course (a .group) (a .store) (a .depths) s) (depthAfter (a .group) (a .depths) s)
+  grown-step =
+      grown (course (a .group) (a .store) (a .depths) s) (depthAfter (a .group) (a .depths) s) (deep-fine vs a h s) after-most
+
+  same-size : next a s .group .n ≡ a .group .n
+  unfolding next stepped settled base.settled deepened withDepth withProcess
+  same-size = go (course (a .group) (a .store) (a .depths) s)
+    where
+      go : (c : Course) → deepened (depthAfter (a .group) (a .depths) s) c (base.settled (a .group) (a .store) c .group) .n ≡ a .group .n
+      go Idles = refl
+      go (Refuses k) = refl
+      go (Takes i x) = refl
+
+  -- so every step keeps what every state of a run is
+  pub deep-next : DeepBasic vs (next a s)
+  unfolding next stepped settled
+  deep-next =
+      record {
+        basic = subst (Basic vs) (sym next-forgets) (basic-next vs (forgotten a) s (h .basic));
+        sized = grown-step .sized;
+        deep-long = grown-step .deep-long;
+        messages = grown-step .messages;
+        processes = λ i lo hi. grown-step .processes i lo (omega (arith, same-size));
+      }
+
+-- ---- the start
+
+pub not-refused-deep : (vs l d : List ℕ) → DeepBegins vs l d → startRefusal vs l d ≡ 0
+unfolding startRefusal row short miscounted
+not-refused-deep vs l d b =
+    rw (le-ltb (length l) storeLength (b .begins .long), le-ltb (length d) storeLength (b .long), among-in greatestSize (length vs) (b .begins .some) (b .begins .few))
+
+-- the depths of its messages are 0
+opened-below : (v : ℕ) (l d : List ℕ) → storeLength ≤ length d → (q : ℕ) → q < storeLength → getD (opened v l d) q 0 ≡ 0
+unfolding opened placeOf
+opened-below v l d long q lt =
+    dating (λ (e : List ℕ) (t : ℕ). getD e q 0 ≡ 0) 1 (firstMessage v) 0 (cleared storeLength l) (cleared storeLength d)
+    (cleared-below storeLength d q lt) (λ is z. go (ℕ-discrete q 0))
+  where
+    go : Dec (q ≡ 0) → getD (set (cleared storeLength d) 0 0) q 0 ≡ 0
+    go (yes e) = ap (λ (p : ℕ). getD (set (cleared storeLength d) 0 0) p 0) e ∙ own (cleared storeLength d) 0 0 (omega (arith, cleared-length storeLength d long))
+    go (no ne) = other (cleared storeLength d) 0 0 q ne ∙ cleared-below storeLength d q lt
+
+module _ (vs l d : List ℕ) (b : DeepBegins vs l d) where
+  pub start-deep : startState vs l d ≡ record { group = begun vs l .group; store = begun vs l .store; depths = opened (getD vs 0 0) l d }
+  unfolding startState started unlessRefusedStart
+  start-deep = ap (λ (k : ℕ). stateOf (unlessRefusedStart k vs l d)) (not-refused-deep vs l d b)
+
+  pub start-forgets : forgotten (startState vs l d) ≡ run.startState vs l
+  unfolding begun
+  start-forgets =
+      ap forgotten start-deep ∙ ap (λ (g : Group). record { group = g; store = begun vs l .store }) (forget-started vs (length vs) (b .begins .few))
+      ∙ sym (start-is vs l (b .begins))
+
+  pub deep-start : DeepBasic vs (startState vs l d)
+  unfolding begun opened
+  deep-start =
+      subst (λ (a : DeepState). forgotten a ≡ run.startState vs l → DeepBasic vs a) (sym start-deep)
+      (λ e.
+      record {
+        basic = subst (Basic vs) (sym e) (basic-start vs l (b .begins));
+        sized = sized-started vs (length vs);
+        deep-long = omega (arith, opened-deep-length, b .long);
+        messages = λ q lt. omega (arith, opened-below (getD vs 0 0) l d (b .long) q lt, opened-sent (getD vs 0 0) l (b .begins .long));
+        processes = λ i lo hi.
+            omega (arith, depth-started vs (length vs) i (b .begins .few) (omega (arith, started-size vs (length vs), b .begins .few)), hi);
+      })
+      start-forgets
+    where
+      opened-deep-length : length (opened (getD vs 0 0) l d) ≡ length d
+      opened-deep-length =
+          dated-length 1 (firstMessage (getD vs 0 0)) 0 (cleared storeLength l) (cleared storeLength d) ∙ cleared-length storeLength d (b .long)
+
+-- ---- every state of a run
+
+-- what each step keeps is kept from any state of a run on
+pub deep-throughout : (vs : List ℕ) (P : DeepState → Type 0) → ((a : DeepState) (s : Step) → DeepBasic vs a → P a → P (next a s))
+    → (a : DeepState) (ss : List Step) → DeepBasic vs a → P a → P (after a ss)
+unfolding after
+deep-throughout vs P step a [] h p = p
+deep-throughout vs P step a (s ∷ ss) h p = deep-throughout vs P step (next a s) ss (deep-next vs a h s) (step a s h p)
+
+pub deep-basic-after : (vs : List ℕ) (a : DeepState) (ss : List Step) → DeepBasic vs a → DeepBasic vs (after a ss)
+unfolding after
+deep-basic-after vs a [] h = h
+deep-basic-after vs a (s ∷ ss) h = deep-basic-after vs (next a s) ss (deep-next vs a h s)
+
+pub deep-basic : (vs l d : List ℕ) (ss : List Step) → DeepBegins vs l d → DeepBasic vs (at vs l d ss)
+deep-basic vs l d ss b = deep-basic-after vs (startState vs l d) ss (deep-start vs l d b)
+
+-- a list of steps in two parts
+pub deep-more : (a : DeepState) (ss ts : List Step) → after a (ss ++ ts) ≡ after (after a ss) ts
+unfolding after
+deep-more a [] ts = refl
+deep-more a (s ∷ ss) ts = deep-more (next a s) ss ts
+
+-- ---- statement 10
+
+after-forgets : (vs : List ℕ) (a : DeepState) (ss : List Step) → DeepBasic vs a → forgotten (after a ss) ≡ run.after (forgotten a) ss
+unfolding after run.after
+after-forgets vs a [] h = refl
+after-forgets vs a (s ∷ ss) h =
+    after-forgets vs (next a s) ss (deep-next vs a h s) ∙ ap (λ (b : State). run.after b ss) (next-forgets vs a h s)
+
+pub depths-change-nothing : DepthsChangeNothing
+depths-change-nothing vs l d ss b =
+    after-forgets vs (startState vs l d) ss (deep-start vs l d b) ∙ ap (λ (a : State). run.after a ss) (start-forgets vs l d b)
+
+answers-forget : (vs : List ℕ) (a : DeepState) (ss : List Step) → DeepBasic vs a → answers a ss ≡ run.answers (forgotten a) ss
+unfolding answers run.answers
+answers-forget vs a [] h = refl
+answers-forget vs a (s ∷ ss) h =
+    ap₂ (λ (x : Said) (xs : List Said). x ∷ xs) (says-forgets vs a h s)
+    (answers-forget vs (next a s) ss (deep-next vs a h s) ∙ ap (λ (b : State). run.answers b ss) (next-forgets vs a h s))
+
+pub answers-stay : AnswersStay
+answers-stay vs l d ss b =
+    answers-forget vs (startState vs l d) ss (deep-start vs l d b) ∙ ap (λ (a : State). run.answers a ss) (start-forgets vs l d b)
+
+-- ---- statement 11
+
+pub depths-fit : DepthsFit
+depths-fit vs l d ss b =
+    let h = deep-basic vs l d ss b in
+    let most = sent-most (at vs l d ss .store) storeLength in (
+      λ k lt. omega (arith, h .messages k lt, most),
+      λ i o. omega (arith, h .processes i (o .low) (omega (arith, deep-size vs (at vs l d ss) h, o .high)), most),
+    )
+
+-- the number of a refusal, by the course that it gives
+number-of : {k : ℕ} (g : Group) (l : List ℕ) (s : Step) (n : ℕ) → unlessRefused n g l s ≡ Refuses (suc k) → n ≡ suc k
+unfolding unlessRefused orIdle idles
+number-of {k} g l s zero e = absurd (never-refuses (idle g s) (isCut s) e)
+  where
+    never-refuses : (t c : Bool) → orIdle t c (takerOf s) (processAt g (takerOf s)) (eventOf g l s) ≡ Refuses (suc k) → ⊥
+    never-refuses true true e = let y : _≡_ {A = ℕ} 0 1 = cc in omega arith
+    never-refuses true false e = let y : _≡_ {A = ℕ} 0 1 = cc in omega arith
+    never-refuses false c e = let y : _≡_ {A = ℕ} 0 1 = cc in omega arith
+number-of g l s (suc n) e = cc
+
+-- a step of a run is refused by the number of the table without depths, over the group without them
+refusal-same : (vs : List ℕ) (a : DeepState) → DeepBasic vs a → (s : Step) → refusal (a .group) (a .store) (a .depths) s ≡ table.refusal (forgetting (a .group)) (a .store) s
+unfolding course base.course unlessRefused
+refusal-same vs a h s = go (refusal (a .group) (a .store) (a .depths) s) refl (table.refusal (forgetting (a .group)) (a .store) s) refl
+  where
+    go : (m : ℕ) → refusal (a .group) (a .store) (a .depths) s ≡ m → (n : ℕ) → table.refusal (forgetting (a .group)) (a .store) s ≡ n
+        → refusal (a .group) (a .store) (a .depths) s ≡ table.refusal (forgetting (a .group)) (a .store) s
+    go zero e zero f = e ∙ sym f
+    go (suc m) e n f = e ∙ sym (number-of (forgetting (a .group)) (a .store) s (table.refusal (forgetting (a .group)) (a .store) s)
+        (sym (course-same vs a h s) ∙ ap (λ (k : ℕ). unlessRefused k (a .group) (a .store) s) e))
+    go zero e (suc n) f = number-of (a .group) (a .store) s (refusal (a .group) (a .store) (a .depths) s)
+        (course-same vs a h s ∙ ap (λ (k : ℕ). unlessRefused k (forgetting (a .group)) (a .store) s) f) ∙ sym f
+
+-- the table without depths has no row 14
+row-not : (b : Bool) (k rest : ℕ) → k ≢ 14 → rest ≢ 14 → row b k rest ≢ 14
+unfolding row
+row-not true k rest a b = a
+row-not false k rest a b = b
+
+never-depths : (g : Group) (l : List ℕ) (s : Step) → table.refusal g l s ≢ 14
+unfolding table.refusal refusalBy row
+never-depths g l s =
+    row-not (short l) 11 _ (omega arith)
+    (row-not (table.damaged g) 2 _ (omega arith)
+    (row-not (strange g s) 3 _ (omega arith)
+    (row-not (late s) 4 _ (omega arith)
+    (row-not (table.down g s) 5 _ (omega arith)
+    (row-not (table.unsent l s) 6 _ (omega arith)
+    (row-not (table.misnamed g l s) 2 _ (omega arith)
+    (row-not (table.impossible g s) 7 _ (omega arith)
+    (row-not (table.recoversPast g s) 13 _ (omega arith)
+    (row-not (table.entersPast g l s) 8 0 (omega arith) (omega arith))))))))))
+
+pub never-fourteen : NeverFourteen
+unfolding forgetting
+never-fourteen vs l d ss b s =
+    let a = at vs l d ss in
+    let h = deep-basic vs l d ss b in
+    subst (λ (k : ℕ). (k ≢ 14) × (k ≢ 2) × (k ≢ 11)) (sym (refusal-same vs a h s))
+    (subst (λ (b : State). (table.refusal (b .group) (b .store) s ≢ 14) × (table.refusal (b .group) (b .store) s ≢ 2) × (table.refusal (b .group) (b .store) s ≢ 11))
+    (sym (depths-change-nothing vs l d ss b))
+    (never-depths (safety.at vs l ss .group) (safety.at vs l ss .store) s, never-two-nor-eleven vs l ss (b .begins) s .0, never-two-nor-eleven vs l ss (b .begins) s .1))
+
+-- ---- depths past the store
+
+past-step : (vs : List ℕ) (a : DeepState) (s : Step) → DeepBasic vs a → (q : ℕ) → storeLength ≤ q → messageDepth (next a s) q ≡ messageDepth a q
+unfolding next stepped settled datedBy datedBoth
+past-step vs a s h q le = go (course (a .group) (a .store) (a .depths) s) (deep-fine vs a h s)
+  where
+    k : ℕ
+    k = depthAfter (a .group) (a .depths) s
+
+    go : (c : Course) → Fine (a .group .n) c → getD (datedBy k c (a .store) (a .depths)) q 0 ≡ messageDepth a q
+    go Idles f = refl
+    go (Refuses n) f = refl
+    go (Takes i x) f =
+        dated-other i (x .second) k (handOver i (x .first) (a .store)) (dated i (x .first) k (a .store) (a .depths)) q (omega (arith, place-lt i (x .second) (f .small) (f .second)))
+        ∙ dated-other i (x .first) k (a .store) (a .depths) q (omega (arith, place-lt i (x .first) (f .small) (f .first)))
+
+pub past-depths-kept : PastDepthsKept
+unfolding opened placeOf
+past-depths-kept vs l d ss b q le =
+    deep-throughout vs (λ (a : DeepState). messageDepth a q ≡ getD d q 0) (λ a s h e. past-step vs a s h q le ∙ e) (startState vs l d) ss (deep-start vs l d b)
+    (ap (λ (a : DeepState). messageDepth a q) (start-deep vs l d b)
+    ∙ dated-other 1 (firstMessage (getD vs 0 0)) 0 (cleared storeLength l) (cleared storeLength d) q (omega arith) ∙ cleared-past storeLength d q le)
