@@ -1,6 +1,6 @@
 #!/usr/bin/env bash
 # What the programs do with bad input and output: nothing hangs and nothing is half said unnoticed.
-# `model run` is the program itself, `model report` and `model sweep` are what one uses.
+# `model run` is the program itself, `model report`, `model sweep` and `model steps` are what one uses.
 # What each gives:
 #   closed, write-only or folder as standard input   taken as an empty file: BAD 9 1 (model: status 1)
 #   closed or full standard output, a file cut off   the program ends with status 0 and does not see it;
@@ -9,6 +9,7 @@
 #   100 MB, input without end                        BAD 10 0 at once, without reading it all
 #   NUL bytes                                        BAD 9 with the line
 #   sweep: missing, folder, no permission, no name   "NAME: cannot be read", and the next files are answered
+#   model steps: the same, and BAD files             named on a line of their own, and status 1
 set -u
 root=$(dirname "$(dirname "$(readlink -f "$0")")")
 model=$root/model
@@ -22,9 +23,9 @@ failed=0
 expected='WARMUP 1 applied 1 idle 0 refused 0 sent 0 decided 0
 MEASURED 4 applied 3 idle 0 refused 1 sent 3 decided 2
 PROCESSES 3
-1 up 0 1 1 7 - 0
-2 up 0 1 1 7 7 0
-3 up 0 1 3 5 7 0'
+1 up 0 1 1 7 - 0 -
+2 up 0 1 1 7 7 0 2
+3 up 0 1 3 5 7 0 3'
 
 # check NAME STATUS TEXT: the last try ended with STATUS and said TEXT ("*" stands for any status that
 # the program itself chose: no timeout and no signal).
@@ -73,7 +74,7 @@ wait
 all_refused='WARMUP 0 applied 0 idle 0 refused 0 sent 0 decided 0
 MEASURED 2978 applied 0 idle 0 refused 2978 sent 0 decided 0
 PROCESSES 1
-1 up 0 1 1 0 - 0'
+1 up 0 1 1 0 - 0 -'
 try "$model" run report < greatest;     check "report, $(stat -c %s greatest) bytes" 0 "$all_refused"
 { head -c 40001 greatest; sleep 0.3; tail -c +40002 greatest; } | { try "$model" run report; echo "$status" > status; }
 status=$(cat status);                   check "report, the same in two halves with a rest between" 0 "$all_refused"
@@ -111,6 +112,8 @@ timeout 10 "$model" report "$example" >&- 2> err;           status=$?; check "mo
 timeout 10 "$model" report "$example" > /dev/full 2> err;   status=$?; check "model report, full disk" 2 ''
 timeout 10 "$model" sweep "$example" >&- 2> err;            status=$?; check "model sweep, standard output closed" 2 ''
 timeout 10 "$model" sweep "$example" > /dev/full 2> err;    status=$?; check "model sweep, full disk" 2 ''
+timeout 10 "$model" steps "$example" >&- 2> err;            status=$?; check "model steps, standard output closed" 2 ''
+timeout 10 "$model" steps "$example" > /dev/full 2> err;    status=$?; check "model steps, full disk" 2 ''
 many=()
 for ((i = 0; i < 400; i++)); do many+=("$example"); done
 (trap '' XFSZ; ulimit -f 8; timeout 10 "$model" sweep "${many[@]}" > part 2> err); status=$?
@@ -142,6 +145,50 @@ try "$model" report missing;                                check "model report,
 try "$model" report folder;                                 check "model report, a folder" 2 ''
 try "$model" report "$example";                             check "model report, a named file" 0 "$expected"
 
+# Communication steps
+bars='
+depth 2  decided 1  #
+depth 3  decided 1  #'
+try "$model" steps;                                         check "model steps, no files" 2 ''
+try "$model" steps "$example"
+check "model steps, a run in which two decide" 0 "$example  process 2  value 7  depth 2
+$example  process 3  value 7  depth 3
+$bars"
+printf 'VALUES 1\n7\nWARMUP 0\nMEASURED 1\nQ 2\n' > undecided
+try "$model" steps undecided;                               check "model steps, a run in which nobody decides" 0 'no process decided'
+printf '\0' > nul
+try "$model" steps nul;                                     check "model steps, a BAD file" 1 'nul: BAD 9 1
+no process decided'
+try "$model" steps folder missing '' nul 'a name with spaces' undecided
+check "model steps, a folder, a missing file, an empty name, a BAD file, a name with spaces" 1 "folder: cannot be read
+missing: cannot be read
+: cannot be read
+nul: BAD 9 1
+a name with spaces  process 2  value 7  depth 2
+a name with spaces  process 3  value 7  depth 3
+$bars"
+cp "$example" 'BAD 9 1'
+cp "$example" 'x: cannot be read'
+try "$model" steps 'BAD 9 1' x 'x: cannot be read'
+check "model steps, names like the lines of an answer" 1 'BAD 9 1            process 2  value 7  depth 2
+BAD 9 1            process 3  value 7  depth 3
+x: cannot be read
+x: cannot be read  process 2  value 7  depth 2
+x: cannot be read  process 3  value 7  depth 3
+
+depth 2  decided 2  ##
+depth 3  decided 2  ##'
+# One process decides at 1 in round 0 and at 5 in round 2.
+printf 'VALUES 1\n7\nWARMUP 0\nMEASURED 1\nE 1 1 0\n' > one
+printf 'VALUES 1\n7\nWARMUP 0\nMEASURED 7\nQ 1\nS 1 1 0\nF 1 1 0\nQ 1\nS 1 1 1\nF 1 1 1\nE 1 1 2\n' > five
+fifty=$(printf '#%.0s' {1..50})
+try "$model" steps "${many[@]}" one five
+tail -n 5 out > part && mv part out;                        check "model steps, bars of 50 characters, of 1 and of none" 0 "depth 1  decided   1  #
+depth 2  decided 400  $fifty
+depth 3  decided 400  $fifty
+depth 4  decided   0
+depth 5  decided   1  #"
+
 # A file without read permission, as a user who is not root
 cp "$example" secret
 chmod 000 secret
@@ -164,6 +211,11 @@ open
 $expected"
   timeout 10 ${as_user[@]+"${as_user[@]}"} "$model" report secret > out 2> err; status=$?
   check "model report, a file without read permission" 2 ''
+  timeout 10 ${as_user[@]+"${as_user[@]}"} "$model" steps secret open > out 2> err; status=$?
+  check "model steps, a file without read permission and a good one" 1 "secret: cannot be read
+open  process 2  value 7  depth 2
+open  process 3  value 7  depth 3
+$bars"
 fi
 
 echo "$passed passed, $failed failed"

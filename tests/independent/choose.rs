@@ -10,11 +10,12 @@ use std::path::{Path, PathBuf};
 
 const HEAD: &str = "# Test vectors
 
-Schedule files with the reports that document 01 and request 2026-03 demand, as the implementation in `tests/independent`
-gives them. `step_`, `cut_`, `idle_` and `refused_` files (letter, part of the rule or cause) hit what they are named after
-in their last step, the only measured one. `ahead_of` files show the order of the refusals, `error_` files give another report
-with one of the errors that look right (document 01's, and two about the number of recoveries), `form_` files try the form of
-the file, and `walk_` files are whole random walks. Refusals 2 and 11 cannot occur in a run of a file.
+Schedule files with the reports that document 01 and requests 2026-03 and 2026-06 demand, as the implementation in
+`tests/independent` gives them. `step_`, `cut_`, `idle_` and `refused_` files (letter, part of the rule or cause) hit what
+they are named after in their last step, the only measured one. `ahead_of` files show the order of the refusals, `error_` files
+give another report with one of the errors that look right (document 01's, two about the number of recoveries and five about
+depths), `form_` files try the form of the file, and `walk_` files are whole random walks. Refusals 2, 11 and 14 cannot occur
+in a run of a file.
 
 | File | What it hits | Report |
 |---|---|---|
@@ -24,10 +25,19 @@ fn hits(bytes: &[u8]) -> BTreeSet<String> {
     answer(bytes, None, &mut Statistic::default(), true).hits
 }
 
-/// Whether the report with this error is another one.
+/// Whether the report with this error is another one; with a depth above 0 where the error is to
+/// show the depths of the undecided, since 0 in their place needs no step at all.
 fn shows(error: Error, bytes: &[u8]) -> bool {
     let report = |error| answer(bytes, error, &mut Statistic::default(), false).report;
-    report(Some(error)) != report(None)
+    let (wrong, right) = (report(Some(error)), report(None));
+    let above_0 = || wrong.lines().zip(right.lines()).any(|(wrong, right)| wrong != right && !wrong.ends_with(" 0"));
+    wrong != right && (error != Error::DepthOfTheUndecided || above_0())
+}
+
+/// The errors about depths.
+fn is_about_depths(error: Error) -> bool {
+    use Error::*;
+    matches!(error, DepthBeforeTheStep | RepeatsDeepen | CutLosesDepth | IdleDeepens | DepthOfTheUndecided)
 }
 
 /// The schedule with as few steps as still hit the wanted thing.
@@ -96,7 +106,8 @@ pub fn choose(files: &[PathBuf], out: &Path) -> Result<bool, String> {
         let sound = read(&bytes).is_ok();
         if sound {
             let all = hits(&bytes);
-            for hit in &all {
+            // The files about depths are for the errors about depths alone.
+            for hit in all.iter().filter(|_| kind != "depths") {
                 let list = small.entry(hit.clone()).or_default();
                 let same: Vec<usize> = (0..list.len()).filter(|i| list[*i][..9] == bytes[..9]).collect();
                 match same.iter().copied().max_by_key(|i| list[*i].len()) {
@@ -136,6 +147,7 @@ pub fn choose(files: &[PathBuf], out: &Path) -> Result<bool, String> {
         chosen.insert(hit.clone(), (text, format!("{}{}", hit.replace('_', " "), what)));
     }
     // Walks for the rest: each time the one that hits most of what is still missing.
+    let (deep, walks): (Vec<_>, Vec<_>) = walks.into_iter().partition(|(kind, _, _)| kind == "depths");
     let mut missing: BTreeSet<String> = small.keys().filter(|hit| left_to_walks(hit)).cloned().collect();
     for number in 1.. {
         let news = |all: &BTreeSet<String>| all.intersection(&missing).cloned().collect::<Vec<_>>();
@@ -159,6 +171,7 @@ pub fn choose(files: &[PathBuf], out: &Path) -> Result<bool, String> {
     // For each of the errors that look right three runs that show it, of groups of three to five.
     for (name, error) in ERRORS {
         let mut shown: BTreeSet<(usize, Vec<u8>)> = BTreeSet::new();
+        let walks = if is_about_depths(error) { &deep } else { &walks };
         for (_, bytes, _) in walks.iter().filter(|(_, bytes, _)| (3..=5).contains(&size_of(bytes)) && shows(error, bytes)).take(40) {
             let schedule = with_few_steps(&read(bytes).expect("sound"), &|candidate| shows(error, candidate.text().as_bytes()));
             let text = schedule.text().into_bytes();

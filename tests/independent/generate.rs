@@ -1,7 +1,7 @@
 // Schedule files to hold two programs against each other, repeatable from a seed: walks that
 // deliver what is really in the store, plans that reach the last round, walks past the greatest
-// number of recoveries, and files damaged in every place of the form. The walks run on the rules
-// of this folder, always without an error.
+// number of recoveries, walks in which depths differ, and files damaged in every place of the form.
+// The walks run on the rules of this folder, always without an error.
 
 use crate::rules::{coordinator, majority, Group, Message, Step, MOST_RECOVERIES};
 use crate::schedule::Schedule;
@@ -284,40 +284,45 @@ impl Walk {
     /// The shortest way up: in each round a majority suspects, the coordinator of the next round
     /// goes there by a majority of F, and its E takes the others along.
     fn climb(&mut self, to_round: u32, noise: u64, chance: &mut Chance) {
-        let n = self.group.n;
         for round in 0..=to_round {
-            let leader = coordinator(round + 1, n);
-            let mut others: Vec<u32> = self.everyone().into_iter().filter(|p| *p != leader).collect();
-            while others.len() + 1 > majority(n) {
-                others.remove(chance.below(others.len() as u64) as usize);
-            }
-            let crew: Vec<u32> = others.iter().copied().chain([leader]).collect();
-            let mut plan: Vec<Step> = Vec::new();
-            let deliver = |to: u32, message: Message| Step::Deliver { to, message, cut: false };
-            // Whoever stayed behind is taken along by the E of the one who led here.
-            let here = coordinator(round, n);
-            plan.extend(crew.iter().filter(|p| self.group.record(**p).round < round).map(|p| deliver(*p, Message::E { round, from: here })));
-            plan.extend(crew.iter().map(|p| Step::Suspect { who: *p, cut: false }));
-            plan.extend(crew.iter().map(|p| deliver(leader, Message::S { round, from: *p })));
-            plan.extend(others.iter().map(|p| deliver(*p, Message::F { round, from: leader })));
-            plan.extend(crew.iter().map(|p| deliver(leader, Message::F { round, from: *p })));
-            for step in plan {
-                if chance.percent(noise) {
-                    let who = chance.pick(&crew);
-                    match chance.below(5) {
-                        0 => {
-                            self.take(Step::Pause { who });
-                            self.take(step);
-                            self.take(Step::Recover { who });
-                        }
-                        1 => self.take(Step::Recover { who }),
-                        2 => self.take(deliver(who, Message::F { round: 63, from: who })),
-                        3 => self.take(deliver(who, Message::S { round: round + 1, from: leader })),
-                        _ => self.take(deliver(who, Message::E { round: 64, from: leader })),
+            self.climb_one(round, noise, chance);
+        }
+    }
+
+    /// The way up from one round to the next.
+    fn climb_one(&mut self, round: u32, noise: u64, chance: &mut Chance) {
+        let n = self.group.n;
+        let leader = coordinator(round + 1, n);
+        let mut others: Vec<u32> = self.everyone().into_iter().filter(|p| *p != leader).collect();
+        while others.len() + 1 > majority(n) {
+            others.remove(chance.below(others.len() as u64) as usize);
+        }
+        let crew: Vec<u32> = others.iter().copied().chain([leader]).collect();
+        let mut plan: Vec<Step> = Vec::new();
+        let deliver = |to: u32, message: Message| Step::Deliver { to, message, cut: false };
+        // Whoever stayed behind is taken along by the E of the one who led here.
+        let here = coordinator(round, n);
+        plan.extend(crew.iter().filter(|p| self.group.record(**p).round < round).map(|p| deliver(*p, Message::E { round, from: here })));
+        plan.extend(crew.iter().map(|p| Step::Suspect { who: *p, cut: false }));
+        plan.extend(crew.iter().map(|p| deliver(leader, Message::S { round, from: *p })));
+        plan.extend(others.iter().map(|p| deliver(*p, Message::F { round, from: leader })));
+        plan.extend(crew.iter().map(|p| deliver(leader, Message::F { round, from: *p })));
+        for step in plan {
+            if chance.percent(noise) {
+                let who = chance.pick(&crew);
+                match chance.below(5) {
+                    0 => {
+                        self.take(Step::Pause { who });
+                        self.take(step);
+                        self.take(Step::Recover { who });
                     }
+                    1 => self.take(Step::Recover { who }),
+                    2 => self.take(deliver(who, Message::F { round: 63, from: who })),
+                    3 => self.take(deliver(who, Message::S { round: round + 1, from: leader })),
+                    _ => self.take(deliver(who, Message::E { round: 64, from: leader })),
                 }
-                self.take(step);
             }
+            self.take(step);
         }
     }
 
@@ -348,6 +353,135 @@ impl Walk {
                 }
                 1..=6 => self.advance(&mood, &everyone, chance),
                 _ => {}
+            }
+        }
+    }
+
+    /// The E of a round goes from process to process: so many percent hear it, so many of them from
+    /// the one before and the others from the coordinator. On the way some deliveries are cut, and
+    /// some who relayed crash, recover and relay again.
+    fn relay_chain(&mut self, round: u32, share: u64, links: u64, chance: &mut Chance) {
+        let first = coordinator(round, self.group.n);
+        let hear = |to: u32, from: u32, cut: bool| Step::Deliver { to, message: Message::E { round, from }, cut };
+        let mut waiting: Vec<u32> = self.everyone().into_iter().filter(|p| *p != first && chance.percent(share)).collect();
+        let mut heard = vec![first];
+        let mut last = first;
+        while !waiting.is_empty() {
+            let who = waiting.remove(chance.below(waiting.len() as u64) as usize);
+            if chance.percent(15) {
+                // The depth is stored, the relay is not out; it is after another E.
+                self.take(hear(who, last, true));
+                self.take(Step::Recover { who });
+                let from = chance.pick(&heard);
+                self.take(hear(who, from, false));
+            } else {
+                self.take(hear(who, last, false));
+            }
+            last = if chance.percent(links) { who } else { first };
+            let again = chance.pick(&heard);
+            if again != first && chance.percent(25) {
+                self.take(Step::Crash { who: again });
+                self.take(Step::Recover { who: again });
+                self.take(hear(again, who, false));
+                last = again;
+            }
+            heard.push(who);
+        }
+    }
+
+    /// To one of these an idle delivery of a message that is deeper than it, if there is one.
+    fn idle_and_deep(&mut self, these: &[u32], chance: &mut Chance) {
+        let mut found: Vec<(u32, Message)> = Vec::new();
+        for &who in these {
+            let depth = self.group.record(who).depth;
+            let open = self.group.is_up(who) && self.group.record(who).decision.is_none();
+            let deep = self.group.store.keys().filter(|m| open && self.group.depth_of(**m) >= depth);
+            found.extend(deep.filter(|m| self.group.why_idle(who, **m).is_some()).map(|m| (who, *m)));
+        }
+        if !found.is_empty() {
+            let (to, message) = chance.pick(&found);
+            let cut = chance.percent(20);
+            self.take(Step::Deliver { to, message, cut });
+            if cut {
+                self.take(Step::Recover { who: to });
+            }
+        }
+    }
+
+    /// A process hears the E of its round until it decides, if there are enough of them and no cut
+    /// ends it.
+    fn gather(&mut self, who: u32, chance: &mut Chance) {
+        let round = self.group.record(who).round;
+        let mut senders = self.everyone();
+        while self.group.is_up(who) && !senders.is_empty() {
+            let from = senders.remove(chance.below(senders.len() as u64) as usize);
+            let message = Message::E { round, from };
+            if self.group.store.contains_key(&message) && self.group.why_idle(who, message).is_none() {
+                let cut = chance.percent(6);
+                self.take(Step::Deliver { to: who, message, cut });
+            }
+        }
+    }
+
+    /// A delivery that is not idle: the deepest, the least deep or any; sometimes a suspicion, or
+    /// a crash and a recovery.
+    fn by_depth(&mut self, chance: &mut Chance) {
+        let open = |p: &u32| self.group.is_up(*p) && self.group.record(*p).decision.is_none();
+        let open: Vec<u32> = self.everyone().into_iter().filter(open).collect();
+        let down = self.down();
+        if !down.is_empty() && (open.is_empty() || chance.percent(30)) {
+            let who = chance.pick(&down);
+            self.take(Step::Recover { who });
+            return;
+        }
+        if open.is_empty() {
+            return;
+        }
+        let who = chance.pick(&open);
+        let cut = chance.percent(8);
+        match chance.below(12) {
+            0 => self.take(Step::Suspect { who, cut }),
+            1 => {
+                self.take(Step::Crash { who });
+                self.take(Step::Recover { who });
+            }
+            2 | 3 => self.idle_and_deep(&open, chance),
+            choice => {
+                let decisions = choice == 4;
+                let wanted = |m: &Message| decisions || !matches!(m, Message::Decision { .. });
+                let able: Vec<Message> = self.group.store.keys().copied().filter(wanted).collect();
+                let mut able: Vec<Message> = able.into_iter().filter(|m| self.group.why_idle(who, *m).is_none()).collect();
+                able.sort_by_key(|m| self.group.depth_of(*m));
+                if let (Some(least), Some(most)) = (able.first().copied(), able.last().copied()) {
+                    let message = match chance.below(5) {
+                        0 | 1 => most,
+                        2 | 3 => least,
+                        _ => chance.pick(&able),
+                    };
+                    self.take(Step::Deliver { to: who, message, cut });
+                }
+            }
+        }
+    }
+
+    /// A decision goes from process to process; some deliveries are cut, and it goes on from another.
+    fn pass_on(&mut self, chance: &mut Chance) {
+        let decisions = |m: &&Message| matches!(m, Message::Decision { .. });
+        let known: Vec<u32> = self.group.store.keys().filter(decisions).map(|m| m.from()).collect();
+        if known.is_empty() {
+            return;
+        }
+        let mut from = chance.pick(&known);
+        let mut open: Vec<u32> = self.everyone().into_iter().filter(|p| self.group.record(*p).decision.is_none()).collect();
+        while !open.is_empty() {
+            let who = open.remove(chance.below(open.len() as u64) as usize);
+            if !self.group.is_up(who) {
+                self.take(Step::Recover { who });
+            }
+            let cut = chance.percent(10);
+            self.take(Step::Deliver { to: who, message: Message::Decision { from }, cut });
+            if !cut && chance.percent(85) {
+                from = who;
             }
         }
     }
@@ -398,6 +532,60 @@ fn many_recoveries(chance: &mut Chance) -> Schedule {
     }
     let length = walk.steps.len() + chance.between(0, 60) as usize;
     walk.walk(&["stormy", "mixed", "wild"], length, chance);
+    walk.schedule(chance)
+}
+
+/// A walk in which depths differ: relays from process to process over some rounds, messages that
+/// come too late for their receivers or too early, deliveries chosen by depth, and a decision that
+/// is passed on from process to process.
+fn deep(chance: &mut Chance) -> Schedule {
+    let n = match chance.weighted(&[60, 30, 10]) {
+        0 => chance.between(3, 5),
+        1 => chance.between(6, 16),
+        _ => chance.between(1, 2),
+    } as u32;
+    let mut walk = Walk::new(n, chance);
+    let rounds = match chance.weighted(&[20, 60, 15, 5]) {
+        0 => 0,
+        1 => chance.between(1, 3),
+        2 => chance.between(4, 12),
+        _ => chance.between(13, 63),
+    } as u32;
+    // Where the last round is kept from them, those left behind can still decide in the one before.
+    let left_behind = rounds > 0 && chance.percent(60);
+    let links = chance.pick(&[0, 50, 100, 100]);
+    for round in 0..=rounds {
+        let share = if left_behind && round + 1 == rounds { 100 } else { chance.pick(&[60, 100, 100]) };
+        if round < rounds || !left_behind {
+            walk.relay_chain(round, share, links, chance);
+        }
+        if round < rounds {
+            walk.climb_one(round, 0, chance);
+        }
+    }
+    let (ahead, mut behind): (Vec<u32>, Vec<u32>) = walk.everyone().into_iter().partition(|p| walk.group.record(*p).round == rounds);
+    behind.retain(|p| walk.group.record(*p).phase == 1);
+    for who in ahead {
+        if chance.percent(if left_behind { 90 } else { 30 }) {
+            walk.take(Step::Suspect { who, cut: false });
+        }
+    }
+    for _ in 0..chance.between(0, u64::from(n)) + u64::from(left_behind) {
+        let who = if behind.is_empty() || chance.percent(30) { chance.pick(&walk.everyone()) } else { chance.pick(&behind) };
+        for _ in 0..chance.below(3) {
+            walk.idle_and_deep(&[who], chance);
+        }
+        if chance.percent(80) {
+            walk.gather(who, chance);
+        }
+    }
+    for _ in 0..chance.below(4 * u64::from(n) + 4) {
+        walk.by_depth(chance);
+    }
+    if chance.percent(80) {
+        walk.pass_on(chance);
+    }
+    walk.steps.truncate(4_096);
     walk.schedule(chance)
 }
 
@@ -688,7 +876,7 @@ pub fn file(index: u64, seed: u64) -> (String, Vec<u8>) {
     let chance = &mut owned;
     // Every fourth file has a damaged byte, every twentieth a damaged line and every fortieth is
     // damaged as a whole, all damages in turn; every two-hundredth walks to the greatest number of
-    // recoveries; the others have their shares.
+    // recoveries, and every hundredth is about depths; the others have their shares.
     let turn = index.wrapping_add(seed.wrapping_mul(7_919));
     if index % 4 == 0 {
         let (bytes, way) = damaged_byte(turn / 4);
@@ -703,6 +891,9 @@ pub fn file(index: u64, seed: u64) -> (String, Vec<u8>) {
     }
     if index % 200 == 99 {
         return ("recoveries".into(), many_recoveries(chance).text().into_bytes());
+    }
+    if index % 100 == 49 {
+        return ("depths".into(), deep(chance).text().into_bytes());
     }
     let share = chance.weighted(&[95, 120, 110, 120, 75, 75, 45, 15, 4, 1, 3, 50]);
     let walked = |kind: &str, moods: &[&str], low: u64, high: u64, chance: &mut Chance| {

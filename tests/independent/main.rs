@@ -1,6 +1,6 @@
-// An implementation of document 01 and request 2026-03 that shares nothing with the proved one,
-// to hold the two against each other: it answers schedule files, makes them, and compares two sets
-// of answers. Standard library only; the rules are in rules.rs, the file form in schedule.rs.
+// An implementation of document 01 and requests 2026-03 and 2026-06 that shares nothing with the
+// proved one, to hold the two against each other: it answers schedule files, makes them, and compares
+// two sets of answers. Standard library only; the rules are in rules.rs, the file form in schedule.rs.
 
 mod choose;
 mod generate;
@@ -25,7 +25,9 @@ independent choose DIR OUT            choose, shorten and name files of DIR for 
 --error NAME                          with an error that looks right; NAME is one of
                                       counts-receptions, back-in-phase-1, hands-over-before-storing,
                                       f-after-adopting, pause-empties-tallies,
-                                      recovery-not-counted-after-a-pause, recoveries-lost-at-a-crash
+                                      recovery-not-counted-after-a-pause, recoveries-lost-at-a-crash,
+                                      depth-before-the-step, repeats-deepen, cut-loses-depth,
+                                      idle-deepens, depth-of-the-undecided
 ";
 
 type Failure = String;

@@ -1,7 +1,7 @@
-// The rules of document 01 and of request 2026-03, written from their words alone: what a group
-// does with one step. Records, tallies and the message store are plain maps and sets. Nothing here
-// knows of files. A process has a disk with its stored record and, unless it crashed, a memory with
-// its tallies.
+// The rules of document 01 and of requests 2026-03 and 2026-06, written from their words alone: what
+// a group does with one step. Records, tallies and the two stores, of messages and of their depths,
+// are plain maps and sets. Nothing here knows of files. A process has a disk with its stored record
+// and, unless it crashed, a memory with its tallies.
 
 use std::collections::{BTreeMap, BTreeSet};
 use std::fmt;
@@ -9,6 +9,8 @@ use std::fmt;
 pub const GREATEST_GROUP: u32 = 16;
 pub const LAST_ROUND: u32 = 63;
 pub const MOST_RECOVERIES: u32 = 255;
+/// A message's depth is at most this, and a process's at most one more.
+pub const GREATEST_DEPTH: u32 = 3_087;
 
 pub fn majority(n: u32) -> usize {
     (n / 2 + 1) as usize
@@ -18,8 +20,8 @@ pub fn coordinator(round: u32, n: u32) -> u32 {
     round % n + 1
 }
 
-/// Document 01's "errors that look right" and two about the number of recoveries: one of them
-/// can be switched on.
+/// Document 01's "errors that look right", two about the number of recoveries and five about
+/// depths: one of them can be switched on.
 #[derive(Clone, Copy, PartialEq, Eq, Debug)]
 pub enum Error {
     CountsReceptions,
@@ -29,9 +31,14 @@ pub enum Error {
     PauseEmptiesTallies,
     RecoveryNotCountedAfterAPause,
     RecoveriesLostAtACrash,
+    DepthBeforeTheStep,
+    RepeatsDeepen,
+    CutLosesDepth,
+    IdleDeepens,
+    DepthOfTheUndecided,
 }
 
-pub const ERRORS: [(&str, Error); 7] = [
+pub const ERRORS: [(&str, Error); 12] = [
     ("counts-receptions", Error::CountsReceptions),
     ("back-in-phase-1", Error::BackInPhase1),
     ("hands-over-before-storing", Error::HandsOverBeforeStoring),
@@ -39,6 +46,11 @@ pub const ERRORS: [(&str, Error); 7] = [
     ("pause-empties-tallies", Error::PauseEmptiesTallies),
     ("recovery-not-counted-after-a-pause", Error::RecoveryNotCountedAfterAPause),
     ("recoveries-lost-at-a-crash", Error::RecoveriesLostAtACrash),
+    ("depth-before-the-step", Error::DepthBeforeTheStep),
+    ("repeats-deepen", Error::RepeatsDeepen),
+    ("cut-loses-depth", Error::CutLosesDepth),
+    ("idle-deepens", Error::IdleDeepens),
+    ("depth-of-the-undecided", Error::DepthOfTheUndecided),
 ];
 
 #[derive(Clone, Copy, PartialEq, Eq, Debug)]
@@ -130,6 +142,15 @@ pub struct Stored {
     pub decision: Option<u32>,
     /// The number of recoveries.
     pub recoveries: u32,
+    /// The communication steps that led to this record; once it is decided, to the decision.
+    pub depth: u32,
+}
+
+impl Stored {
+    /// One step of communication beyond a message of this depth, if that is more.
+    fn deepen(&mut self, message_depth: u32) {
+        self.depth = self.depth.max(message_depth + 1);
+    }
 }
 
 /// The distinct senders heard. The number of receptions is kept for the error that counts them.
@@ -188,12 +209,15 @@ pub struct Group {
     memory: BTreeMap<u32, Memory>,
     paused: BTreeSet<u32>,
     pub store: BTreeMap<Message, Estimate>,
+    /// The second store: for each message that was handed over its depth when it first was.
+    depths: BTreeMap<Message, u32>,
     kept_back: BTreeSet<Message>,
     error: Option<Error>,
 }
 
 impl Group {
-    /// The start; refusal 1 where there are not 1 to 16 values.
+    /// The start; refusal 1 where there are not 1 to 16 values. Here and in a step 11, and 14 for a
+    /// short second store, cannot occur: the stores are maps.
     pub fn start(values: &[u32], error: Option<Error>) -> Result<Group, u32> {
         if values.is_empty() || values.len() > GREATEST_GROUP as usize {
             return Err(1);
@@ -209,6 +233,7 @@ impl Group {
                 marked: false,
                 decision: None,
                 recoveries: 0,
+                depth: 0,
             };
             disk.insert(i, record.clone());
             memory.insert(i, Memory { record, estimates: Tally::default(), suspicions: Tally::default() });
@@ -220,6 +245,7 @@ impl Group {
             memory,
             paused: BTreeSet::new(),
             store: BTreeMap::from([(Message::E { round: 0, from: 1 }, first)]),
+            depths: BTreeMap::from([(Message::E { round: 0, from: 1 }, 0)]),
             kept_back: BTreeSet::new(),
             error,
         })
@@ -235,6 +261,11 @@ impl Group {
             Some(memory) => &memory.record,
             None => &self.disk[&who],
         }
+    }
+
+    /// The depth of a message in the second store, which has 0 where none was handed over.
+    pub fn depth_of(&self, message: Message) -> u32 {
+        self.depths.get(&message).copied().unwrap_or(0)
     }
 
     fn has_error(&self, error: Error) -> bool {
@@ -293,7 +324,7 @@ impl Group {
     }
 
     /// Refusal 2: no start and no step makes a damaged group, so this never speaks. The number of
-    /// recoveries is no case of it.
+    /// recoveries is no case of it; a process's depth above 3,088 is.
     fn damaged(&self) -> bool {
         let in_group = |p: &u32| (1..=self.n).contains(p);
         !(1..=GREATEST_GROUP).contains(&self.n)
@@ -302,6 +333,7 @@ impl Group {
                 record.round > LAST_ROUND
                     || !(1..=2).contains(&record.phase)
                     || !in_group(&record.estimate.proposer)
+                    || record.depth > GREATEST_DEPTH + 1
                     || self.memory.get(&p).is_some_and(|m| {
                         !m.estimates.senders.iter().all(in_group) || !m.suspicions.senders.iter().all(in_group)
                     })
@@ -338,6 +370,10 @@ impl Group {
                 };
                 if !in_group(carried.proposer) {
                     return Err((2, "damaged_entry"));
+                }
+                // This never speaks either: no run from a start makes a message so deep.
+                if self.depth_of(message) > GREATEST_DEPTH {
+                    return Err((14, "damaged_depth"));
                 }
                 self.deliver(who, message, carried)
             }
@@ -405,6 +441,7 @@ impl Group {
         if let Some(reason) = self.idle(&me, message) {
             return Ok(Effect::Idle(reason));
         }
+        me.record.deepen(self.depth_of(message));
         let mut out = Vec::new();
         let mut parts = Vec::new();
         let mut round = me.record.round;
@@ -506,14 +543,27 @@ impl Group {
         Ok(Effect::Next(me, out, parts))
     }
 
-    fn hand_over(&mut self, messages: &[(Message, Estimate)]) -> u64 {
+    /// Writes the entries; a message that is handed over for the first time gets this depth.
+    fn hand_over(&mut self, messages: &[(Message, Estimate)], depth: u32) -> u64 {
         let mut sent = 0;
         for (message, carried) in messages {
-            if self.store.insert(*message, *carried).is_none() {
-                sent += 1;
+            let first = self.store.insert(*message, *carried).is_none();
+            if first || self.has_error(Error::RepeatsDeepen) {
+                self.depths.insert(*message, depth);
             }
+            sent += u64::from(first);
         }
         sent
+    }
+
+    /// The error of an idle delivery that raises the depth of an undecided process.
+    fn deepen_by_idle(&mut self, who: u32, message: Message) {
+        let depth = self.depth_of(message);
+        let me = self.memory.get_mut(&who).expect("an up process has a memory");
+        if me.record.decision.is_none() {
+            me.record.deepen(depth);
+            self.disk.get_mut(&who).expect("a process has a disk").deepen(depth);
+        }
     }
 
     fn crash(&mut self, who: u32) {
@@ -546,15 +596,25 @@ impl Group {
                 told.parts = vec!["idle", reason];
                 self.crash(who);
             }
-            Effect::Idle(reason) => told.outcome = Outcome::Idle(reason),
-            Effect::Next(next, messages, parts) => {
+            Effect::Idle(reason) => {
+                told.outcome = Outcome::Idle(reason);
+                if let (Step::Deliver { message, .. }, true) = (step, self.has_error(Error::IdleDeepens)) {
+                    self.deepen_by_idle(who, *message);
+                }
+            }
+            Effect::Next(mut next, messages, parts) => {
                 told.parts = parts;
+                let before = self.record(who).depth;
+                let depth = if self.has_error(Error::DepthBeforeTheStep) { before } else { next.record.depth };
                 if step.is_cut() && self.has_error(Error::HandsOverBeforeStoring) {
                     // The error: the messages are out, the record is not stored.
-                    told.sent = self.hand_over(&messages);
+                    told.sent = self.hand_over(&messages, depth);
                     told.handed_over = messages;
                     self.crash(who);
                     return told;
+                }
+                if step.is_cut() && self.has_error(Error::CutLosesDepth) {
+                    next.record.depth = before;
                 }
                 told.decided = self.record(who).decision.is_none() && next.record.decision.is_some();
                 self.disk.insert(who, next.record.clone());
@@ -563,7 +623,7 @@ impl Group {
                     self.crash(who);
                 } else {
                     self.memory.insert(who, next);
-                    told.sent = self.hand_over(&messages);
+                    told.sent = self.hand_over(&messages, depth);
                     if told.sent < messages.len() as u64 {
                         told.parts.push("handed_over_again");
                     }

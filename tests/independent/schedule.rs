@@ -1,8 +1,8 @@
 // The schedule file and the report of document 01, with the number of recoveries of request
-// 2026-03: reading a file into lists of steps, running them with a watch on safety, and writing
-// the report as text.
+// 2026-03 and the depths of request 2026-06: reading a file into lists of steps, running them with a
+// watch on safety and on depths, and writing the report as text.
 
-use crate::rules::{Error, Estimate, Group, Message, Outcome, Step, Stored, Told, GREATEST_GROUP, MOST_RECOVERIES};
+use crate::rules::{Error, Estimate, Group, Message, Outcome, Step, Stored, Told, GREATEST_DEPTH, GREATEST_GROUP, MOST_RECOVERIES};
 use std::collections::{BTreeMap, BTreeSet};
 use std::fmt::Write;
 
@@ -143,12 +143,16 @@ pub fn read(bytes: &[u8]) -> Result<Schedule, Fault> {
     Ok(Schedule { values, warmup, measured })
 }
 
-/// The watch on safety: what must hold in every run, whatever the rules above do.
+/// The watch on safety and on depths: what must hold in every run, whatever the rules above do.
 struct Watch {
     first_values: BTreeSet<u32>,
     decided: Option<u32>,
     last_stored: BTreeMap<u32, Stored>,
-    seen: BTreeMap<Message, Estimate>,
+    seen: BTreeMap<Message, (Estimate, u32)>,
+    /// Who took an E yet.
+    heard_an_e: BTreeSet<u32>,
+    /// So far no suspicion, no cut, and whoever took an E took process 1's first.
+    all_at_two: bool,
     complaints: Vec<String>,
 }
 
@@ -158,7 +162,9 @@ impl Watch {
             first_values: schedule.values.iter().copied().collect(),
             decided: None,
             last_stored: (1..=group.n).map(|p| (p, group.record(p).clone())).collect(),
-            seen: group.store.clone(),
+            seen: group.store.iter().map(|(message, carried)| (*message, (*carried, group.depth_of(*message)))).collect(),
+            heard_an_e: BTreeSet::new(),
+            all_at_two: group.n >= 2,
             complaints: Vec::new(),
         }
     }
@@ -195,9 +201,46 @@ impl Watch {
                 _ => self.decided = Some(value),
             }
         }
+        // The depths: what a step may add, what it must keep, and the depth of 2 of a good run.
+        let idle_but_for_the_cut = told.parts.first() == Some(&"idle");
+        let depth_due = match *step {
+            Step::Deliver { message, .. } if !idle_but_for_the_cut => before.depth.max(group.depth_of(message) + 1),
+            _ => before.depth,
+        };
+        if record.depth != depth_due {
+            complain(format!("process {} has depth {} and not {}", who, record.depth, depth_due));
+        }
+        if before.decision.is_some() && record.depth != before.depth {
+            complain(format!("process {} changed the depth of its decision", who));
+        }
+        if record.depth > GREATEST_DEPTH + 1 {
+            complain(format!("process {} has depth {}", who, record.depth));
+        }
+        self.all_at_two &= !step.is_cut() && !matches!(step, Step::Suspect { .. });
+        if let Step::Deliver { message: Message::E { from, .. }, .. } = *step {
+            if !idle_but_for_the_cut && self.heard_an_e.insert(who) {
+                self.all_at_two &= from == 1;
+            }
+            if self.all_at_two && told.decided && record.depth != 2 {
+                complain(format!("process {} decided at depth {} in a run where all decide at 2", who, record.depth));
+            }
+        }
         for (message, carried) in &told.handed_over {
-            if self.seen.insert(*message, *carried).is_some_and(|other| other != *carried) {
-                complain(format!("{:?} was handed over again with another content", message));
+            let depth = group.depth_of(*message);
+            match self.seen.insert(*message, (*carried, depth)) {
+                None if depth != record.depth => {
+                    complain(format!("{:?} has depth {}, and its sender {}", message, depth, record.depth))
+                }
+                Some((other, _)) if other != *carried => {
+                    complain(format!("{:?} was handed over again with another content", message))
+                }
+                Some((_, other)) if other != depth => {
+                    complain(format!("{:?} was handed over again with another depth", message))
+                }
+                _ => {}
+            }
+            if depth > GREATEST_DEPTH {
+                complain(format!("{:?} has depth {}", message, depth));
             }
             let covered = match *message {
                 Message::E { round, .. } => record.round >= round,
@@ -219,6 +262,7 @@ pub struct Statistic {
     pub files: u64,
     pub counts: BTreeMap<String, u64>,
     pub highest_round: u32,
+    pub greatest_depth: u32,
 }
 
 impl Statistic {
@@ -235,15 +279,17 @@ impl Statistic {
             names.iter().map(|(label, name)| format!("{} {}", label, self.get(name))).collect::<Vec<_>>().join(", ")
         };
         format!(
-            "files: {} in all; {}\nsteps: {}\nrefused steps by number: {} (11 cannot occur: the store here is a map)\nruns: {}, highest round {}\n",
+            "files: {} in all; {}\nsteps: {}\nrefused steps by number: {} (11 cannot occur, nor 14 for a short store: the stores here are maps)\n\
+             runs: {}, highest round {}, greatest depth of a decision {}\n",
             self.files,
             list(&[("sound", "sound"), ("faulty with 1:", "fault 1"), ("with 9:", "fault 9"), ("with 10:", "fault 10")]),
             list(&[("applied", "applied"), ("idle", "idle"), ("refused", "refused"), ("cut and applied", "cut applied"),
                 ("cut and idle but for the cut", "cut idle"), ("cut and refused", "cut refused"), ("jumps", "jumps")]),
             list(&[("2:", "refused 2"), ("3:", "refused 3"), ("4:", "refused 4"), ("5:", "refused 5"),
-                ("6:", "refused 6"), ("7:", "refused 7"), ("8:", "refused 8"), ("13:", "refused 13")]),
+                ("6:", "refused 6"), ("7:", "refused 7"), ("8:", "refused 8"), ("13:", "refused 13"), ("14:", "refused 14")]),
             list(&[("decided processes", "decided"), ("runs with a decision", "deciding runs"), ("entries sent", "sent")]),
             self.highest_round,
+            self.greatest_depth,
         )
     }
 }
@@ -349,9 +395,13 @@ pub fn answer(bytes: &[u8], error: Option<Error>, statistic: &mut Statistic, wan
     for who in 1..=group.n {
         let record = group.record(who);
         statistic.highest_round = statistic.highest_round.max(record.round);
+        if record.decision.is_some() {
+            statistic.greatest_depth = statistic.greatest_depth.max(record.depth);
+        }
+        let shows_depth = record.decision.is_some() || error == Some(Error::DepthOfTheUndecided);
         let _ = writeln!(
             report,
-            "{} {} {} {} {} {} {} {}",
+            "{} {} {} {} {} {} {} {} {}",
             who,
             if group.is_up(who) { "up" } else { "down" },
             record.round,
@@ -359,7 +409,8 @@ pub fn answer(bytes: &[u8], error: Option<Error>, statistic: &mut Statistic, wan
             record.estimate.proposer,
             record.estimate.value,
             record.decision.map_or("-".to_string(), |value| value.to_string()),
-            record.recoveries
+            record.recoveries,
+            if shows_depth { record.depth.to_string() } else { "-".to_string() }
         );
     }
     Answer { report, complaints: watch.complaints, hits }

@@ -2,26 +2,33 @@
 use mathlib.Core.Path.{_≡_, refl, sym, ap, subst, _∙_}
 use mathlib.Core.Bool.{Bool, true, false, _&&_, not}
 use mathlib.Core.List.{List}
+use mathlib.Core.Logic.{_≢_}
 use Prim.Native.Nat.{ℕ, zero, suc, _≤_}
 use native.Mathlib.Omega.{arith}
-use lib.Dec.{leb}
-use borrow.Author.Tests.{leb-true, le-leb, not-false}
+use lib.Dec.{eqb, leb}
+use lib.ListN.{length, getD, set, length-set}
+use borrow.Author.Tests.{leb-true, le-leb, not-false, eqb-true}
 use Rattle.rules.specs.declared.group.Group.{Group}
+use Rattle.rules.specs.declared.process.Message.{Message}
+use Rattle.rules.specs.declared.process.Message.the-variants.{Nothing, E, S, F, Decision}
 use Rattle.rules.specs.declared.process.Next.{Next}
 use Rattle.rules.specs.declared.step.Step.{Step}
 use Rattle.rules.specs.declared.course.Course.{Course}
 use Rattle.rules.specs.declared.course.Course.the-variants.{Idles, Refuses, Takes}
 use Rattle.rules.specs.Limits.{greatestSize, deepestProcess, among}
 use Rattle.rules.specs.Records.{processAt, depthAt}
+use Rattle.rules.specs.Store.{placeOf, turned}
+use Rattle.rules.specs.Tally.{bitOf}
 use Rattle.rules.specs.Steps.{takerOf, isCut, eventOf}
 use Rattle.rules.specs.Idle.{idle}
 use Rattle.rules.specs.Refusals.{allOf, short, whole, refusalBy}
 use Rattle.rules.specs.Refusals as base
 use Rattle.rules.specs.Step.{idles, orIdle, unlessRefused}
-use Rattle.rules.specs.Depths.{damaged, tooDeep, refusal, course}
+use Rattle.rules.specs.Depths.{datedIf, dated, damaged, tooDeep, refusal, course}
 use Rattle.rules.proofs.BoolLaws.{and-left, and-right, and-both}
 use Rattle.rules.proofs.AllLaws.{all-each, all-every}
 use Rattle.rules.proofs.RowLaws.{among-true, among-in}
+use Rattle.rules.proofs.StoreLaws.{IsMessage, other}
 use Rattle.rules.proofs.SoundLaws.{Sound, sound-facts, facts-sound, whole-facts, facts-whole, Passed, PassedBy, by-passed, Taking, Fine, passed-fine}
 
 -- ---- a sound group whose processes are not too deep
@@ -106,3 +113,32 @@ course-takes g l d s {i} {x} e = go (refusal g l d s) refl
         let t : Refuses (suc k) ≡ Takes i x = ap (λ (k : ℕ). unlessRefused k g l s) (sym z) ∙ e in
         let y : _≡_ {A = ℕ} 0 1 = cc in
         absurd (omega arith)
+
+-- ---- one message that is dated
+
+-- what is true of the depths as they are, with nothing sent, and of those with the depth written where the entry was 0, is true after the handing over
+pub dating : (P : List ℕ → ℕ → Type 0) (i : ℕ) (m : Message) (k : ℕ) (l d : List ℕ) → P d 0
+    → (IsMessage m → getD l (placeOf i m) 0 ≡ 0 → P (set d (placeOf i m) k) 1)
+    → P (dated i m k l d) (turned i m l)
+unfolding dated turned datedIf
+dating P i m k l d old new = go m new
+  where
+    at-place : (m : Message) (b : Bool) → eqb (getD l (placeOf i m) 0) 0 ≡ b → (getD l (placeOf i m) 0 ≡ 0 → P (set d (placeOf i m) k) 1)
+        → P (datedIf b (placeOf i m) k d) (bitOf b)
+    at-place m true e new = new (eqb-true (getD l (placeOf i m) 0) 0 e)
+    at-place m false e new = old
+
+    go : (m : Message) → (IsMessage m → getD l (placeOf i m) 0 ≡ 0 → P (set d (placeOf i m) k) 1) → P (dated i m k l d) (turned i m l)
+    go Nothing new = old
+    go (E r q v) new = at-place (E r q v) _ refl (new tt)
+    go (S r) new = at-place (S r) _ refl (new tt)
+    go (F r q v) new = at-place (F r q v) _ refl (new tt)
+    go (Decision v) new = at-place (Decision v) _ refl (new tt)
+
+module _ (i : ℕ) (m : Message) (k : ℕ) (l d : List ℕ) where
+  pub dated-length : length (dated i m k l d) ≡ length d
+  dated-length = dating (λ (e : List ℕ) (t : ℕ). length e ≡ length d) i m k l d refl (λ is z. length-set d (placeOf i m) k)
+
+  -- at every other place, and where the entry was sent, the depth stays
+  pub dated-other : (q : ℕ) → q ≢ placeOf i m → getD (dated i m k l d) q 0 ≡ getD d q 0
+  dated-other q ne = dating (λ (e : List ℕ) (t : ℕ). getD e q 0 ≡ getD d q 0) i m k l d refl (λ is z. other d (placeOf i m) k q ne)

@@ -9,6 +9,7 @@ pub mod ProcessLaws
 pub mod SoundLaws
 pub mod DepthLaws
 pub mod ForgetLaws
+pub mod DeepLaws
 pub mod StepLaws
 pub mod CourseLaws
 pub mod Unique

@@ -31,3 +31,7 @@ pub mod Theorem
 -- the run with depths
 pub mod Depths
 pub mod DepthSteps
+pub mod Chains
+pub mod TwoSteps
+pub mod DepthKept
+pub mod DepthTheorem

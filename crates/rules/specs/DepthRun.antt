@@ -10,7 +10,7 @@ use Rattle.rules.specs.declared.group.Group.{Group}
 use Rattle.rules.specs.declared.step.Step.{Step}
 use Rattle.rules.specs.declared.step.Step.the-variants.{DeliverE, DeliverS, DeliverF, DeliverDecision, Suspect, Pause, Crash, Recover}
 use Rattle.rules.specs.Limits.{greatestSize, storeLength, deepestMessage, deepestProcess}
-use Rattle.rules.specs.Records.{groupOf, third, processAt, depthAt}
+use Rattle.rules.specs.Records.{groupOf, third, stored, processAt, depthAt}
 use Rattle.rules.specs.Answers.{Said}
 use Rattle.rules.specs.Steps.{takerOf, delivers, isCut, entryIn}
 use Rattle.rules.specs.Idle.{idle}
@@ -74,6 +74,11 @@ applied a s = stepped (a .group) (a .store) (a .depths) s .says .applied
 -- a statement of every run
 abbrev pub EveryRun : (List ℕ → List ℕ → List ℕ → List Step → Type 0) → Type 0
 EveryRun P = (vs l d : List ℕ) (ss : List Step) → DeepBegins vs l d → P vs l d ss
+
+-- process i of a state holds the decision v
+pub record DeepHolds (a : DeepState) (i v : ℕ) : Type 0 where
+  pub decided : decidedIn a i ≡ true
+  pub decision : processAt (a .group) i .decision ≡ v
 
 -- ---- 10: depths change nothing else
 
@@ -217,8 +222,23 @@ pub record Ends (vs l : List ℕ) (ss : List Step) (i k : ℕ) : Type 0 where
   pub chain : Chain vs l before last k
   pub taker : takerOf last ≡ i
 
--- "The depth of a process at a moment of a run is the length of the longest chain whose last delivery is to it, 0 where there is none": a chain of that length exists, and none is longer
+-- m is the length of the longest one, "0 where there is none": a chain of that length exists, and none is longer
+abbrev pub Longest : List ℕ → List ℕ → List Step → ℕ → ℕ → Type 0
+Longest vs l ss i m = (m ≢ 0 → Ends vs l ss i m) × ((k : ℕ) → Ends vs l ss i k → k ≤ m)
+
+-- "The depth of a process at a moment of a run is the length of the longest chain whose last delivery is to it"
 abbrev pub DepthIsLongest : Type 0
-DepthIsLongest = EveryRun λ vs l d ss. (i : ℕ) → Of vs i
-    → (depthOf (at vs l d ss) i ≢ 0 → Ends vs l ss i (depthOf (at vs l d ss) i))
-    × ((k : ℕ) → Ends vs l ss i k → k ≤ depthOf (at vs l d ss) i)
+DepthIsLongest = EveryRun λ vs l d ss. (i : ℕ) → Of vs i → Longest vs l ss i (depthOf (at vs l d ss) i)
+
+-- ---- demand 3, of the run that start and step make
+
+-- No two processes ever hold different decisions, each decided value is some process's first value, a decision that is held is held ever after, and a recovered process has the stored
+-- record that it last stored, with one recovery more, and the depth that it had
+pub record DeepSafety : Type 0 where
+  pub agreement : EveryRun λ vs l d ss. (i j v w : ℕ) → Of vs i → Of vs j → DeepHolds (at vs l d ss) i v → DeepHolds (at vs l d ss) j w → v ≡ w
+  pub validity : EveryRun λ vs l d ss. (i v : ℕ) → Of vs i → DeepHolds (at vs l d ss) i v → safety.FirstValue vs v
+  pub decisions : EveryRun λ vs l d ss. (ts : List Step) (i v : ℕ) → Of vs i → DeepHolds (at vs l d ss) i v → DeepHolds (after (at vs l d ss) ts) i v
+  pub recovery : EveryRun λ vs l d ss. (ts : List Step) (i : ℕ) → Of vs i → safety.DownThrough (forgotten (at vs l d ss)) ts i
+      → stored (processAt (next (after (at vs l d ss) ts) (Recover i) .group) i) ≡ safety.back (stored (processAt (at vs l d ss .group) i))
+  pub depth : DepthRecovery
+  pub decision-depth : DecisionDepthStays

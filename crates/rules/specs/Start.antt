@@ -1,5 +1,4 @@
--- Document 01, "Records and the message store": start. Assumes nothing.
-use mathlib.Core.Path.{_≡_}
+-- Document 01, "Records and the message store": start, but for its depths (`Depths` lays them over it). Assumes nothing.
 use mathlib.Core.Bool.{false, true}
 use mathlib.Core.List.{List}
 use Prim.Native.Nat.{ℕ, zero, suc}
@@ -8,11 +7,10 @@ use Rattle.rules.specs.declared.group.Group.{Group}
 use Rattle.rules.specs.declared.process.Process.{Process}
 use Rattle.rules.specs.declared.process.Message.{Message}
 use Rattle.rules.specs.declared.process.Message.the-variants.{E}
-use Rattle.rules.specs.declared.step.Taken.{Taken}
 use Rattle.rules.specs.Limits.{storeLength}
 use Rattle.rules.specs.Records.{withProcess, blankGroup}
 use Rattle.rules.specs.Store.{cleared, handOver}
-use Rattle.rules.specs.Answers.{Outcome, outcome, refused, said, saysApplied}
+use Rattle.rules.specs.Answers.{Outcome, outcome, refused, saysApplied}
 use Rattle.rules.specs.Refusals.{startRefusal}
 
 -- "process i has first value v_i, round 0, phase 1, estimate (i, v_i), no mark, no decision, up, empty tallies", and no recovery
@@ -57,7 +55,3 @@ unlessRefusedStart (suc k) vs l = refused (blankGroup 0) l (suc k)
 
 unfoldable pub started : List ℕ → List ℕ → Outcome
 started vs l = unlessRefusedStart (startRefusal vs l) vs l
-
--- the contract of start: what it returns and what the store then holds are just what is started
-abbrev pub Starts : List ℕ → List ℕ → Taken → List ℕ → Type 0
-Starts vs l r after = outcome (r .group) after (said (r .answer)) ≡ started vs l

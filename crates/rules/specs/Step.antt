@@ -1,5 +1,4 @@
--- Document 01, "Steps": a step, whole. "Every step is applied, idle or refused; refusals are tested before idleness". Assumes nothing.
-use mathlib.Core.Path.{_≡_}
+-- Document 01, "Steps": a step, whole, but for its depths (`Depths` lays them over it). "Every step is applied, idle or refused; refusals are tested before idleness". Assumes nothing.
 use mathlib.Core.Bool.{Bool, true, false, _&&_, not}
 use mathlib.Core.List.{List}
 use Prim.Native.Nat.{ℕ, zero, suc, _+_}
@@ -7,13 +6,11 @@ use Rattle.rules.specs.declared.group.Group.{Group}
 use Rattle.rules.specs.declared.process.Process.{Process}
 use Rattle.rules.specs.declared.process.Next.{Next}
 use Rattle.rules.specs.declared.step.Step.{Step}
-use Rattle.rules.specs.declared.step.Answer.{Answer}
-use Rattle.rules.specs.declared.step.Taken.{Taken}
 use Rattle.rules.specs.declared.course.Course.{Course}
 use Rattle.rules.specs.declared.course.Course.the-variants.{Idles, Refuses, Takes}
-use Rattle.rules.specs.Records.{processAt, withProcess, groupOf}
+use Rattle.rules.specs.Records.{processAt, withProcess}
 use Rattle.rules.specs.Store.{handOver, turned}
-use Rattle.rules.specs.Answers.{Outcome, outcome, refused, said, saysApplied, saysIdle}
+use Rattle.rules.specs.Answers.{Outcome, outcome, refused, saysApplied, saysIdle}
 use Rattle.rules.specs.Events.{onCrash, cutIf}
 use Rattle.rules.specs.Steps.{takerOf, isCut, eventOf}
 use Rattle.rules.specs.Idle.{idle}
@@ -60,9 +57,3 @@ settled g l (Takes i x) =
 
 unfoldable pub stepped : Group → List ℕ → Step → Outcome
 stepped g l s = settled g l (course g l s)
-
--- ---- the contracts
-
--- of step: what it returns and what the store then holds are just what is stepped
-abbrev pub Steps : Group → List ℕ → Step → Taken → List ℕ → Type 0
-Steps g l s r after = outcome (r .group) after (said (r .answer)) ≡ stepped g l s

@@ -242,15 +242,15 @@ impl Group {
         take_out(&words, &halves, &bytes, &flags, i as u8)
     }
 
-    // The depth of process i, and 0 where i is not 1 to 16. Of a process that has decided it is the decision's: its number of communication steps.
-    pub fn depth(self, i: u32) -> u16
-        ensures { λ r. ⌜ r ≡ records.depthOf self i ⌝ }
+    // The depth of a process, and 0 where its number is not 1 to 16. Of a process that has decided it is the decision's: its number of communication steps.
+    pub fn depth(self, process: u32) -> u16
+        ensures { λ r. ⌜ r ≡ records.depthOf self process ⌝ }
     {
-        if !among(Group::LAST_NUMBER, i) {
+        if !among(Group::LAST_NUMBER, process) {
             return 0;
         }
         let halves = self.halves;
-        depth_of(&halves, i as u8)
+        depth_of(&halves, process as u8)
     }
 
     // A group of one process for each value, with process 1's E of round 0 in a store that is cleared before, and all depths 0. Refused: a group of size 0, and both stores as they were.

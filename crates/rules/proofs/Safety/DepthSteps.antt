@@ -33,11 +33,11 @@ use Rattle.rules.specs.DepthRun.{DeepState, next, depthOf, messageDepth,
 use Rattle.rules.proofs.StoreLaws.{IsMessage, place-lt, own, other, handOver-length, handOver-other}
 use Rattle.rules.proofs.GroupLaws.{sized-with}
 use Rattle.rules.proofs.SoundLaws.{named-entry, Named, Taking, Fine}
-use Rattle.rules.proofs.DepthLaws.{DeepPassed, deep-passed}
+use Rattle.rules.proofs.DepthLaws.{DeepPassed, deep-passed, dating, dated-length}
 use Rattle.rules.proofs.ForgetLaws.{depth-put, depth-kept, depth-with}
 use Rattle.rules.proofs.Safety.Cases.{never, handed-by}
 use Rattle.rules.proofs.Safety.Handing.{Addresses, place-delivered}
-use Rattle.rules.proofs.Safety.Depths.{DeepBasic, deep-fine, deep-few, dating, dated-length}
+use Rattle.rules.proofs.Safety.Depths.{DeepBasic, deep-fine}
 
 -- ---- the course
 

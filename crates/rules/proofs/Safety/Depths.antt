@@ -42,7 +42,7 @@ use Rattle.rules.proofs.StoreLaws.{IsMessage, place-lt, own, other, han
 use Rattle.rules.proofs.RowLaws.{among-in}
 use Rattle.rules.proofs.GroupLaws.{with-size, sized-with, sized-started, started-size}
 use Rattle.rules.proofs.SoundLaws.{Whole, Sound, sound-facts, facts-sound, Taking, Fine, course-fine, overs-sent}
-use Rattle.rules.proofs.DepthLaws.{facts-deep, deep-sound, DeepPassed, course-takes}
+use Rattle.rules.proofs.DepthLaws.{facts-deep, deep-sound, DeepPassed, course-takes, dating, dated-length, dated-other}
 use Rattle.rules.proofs.ForgetLaws.{process-deep, depth-put, depth-kept, sized-deep, depth-with, process-forgets, sized-forgets, depth-forgets, forget-with, forget-deep, forget-started, depth-started}
 use Rattle.rules.proofs.CourseLaws.{numbers-refuse, held-course, taker-low, place-low}
 use Rattle.rules.proofs.Safety.Basics.{Basic, basic, basic-start, basic-next, not-refused, start-is}
@@ -51,33 +51,7 @@ use Rattle.rules.proofs.Safety.Sound.{never-two-nor-eleven}
 
 -- ---- one message that is dated
 
--- what is true of the depths as they are, with nothing sent, and of those with the depth written where the entry was 0, is true after the handing over
-pub dating : (P : List ℕ → ℕ → Type 0) (i : ℕ) (m : Message) (k : ℕ) (l d : List ℕ) → P d 0
-    → (IsMessage m → getD l (placeOf i m) 0 ≡ 0 → P (set d (placeOf i m) k) 1)
-    → P (dated i m k l d) (turned i m l)
-unfolding dated turned datedIf
-dating P i m k l d old new = go m new
-  where
-    at-place : (m : Message) (b : Bool) → eqb (getD l (placeOf i m) 0) 0 ≡ b → (getD l (placeOf i m) 0 ≡ 0 → P (set d (placeOf i m) k) 1)
-        → P (datedIf b (placeOf i m) k d) (bitOf b)
-    at-place m true e new = new (eqb-true (getD l (placeOf i m) 0) 0 e)
-    at-place m false e new = old
-
-    go : (m : Message) → (IsMessage m → getD l (placeOf i m) 0 ≡ 0 → P (set d (placeOf i m) k) 1) → P (dated i m k l d) (turned i m l)
-    go Nothing new = old
-    go (E r q v) new = at-place (E r q v) _ refl (new tt)
-    go (S r) new = at-place (S r) _ refl (new tt)
-    go (F r q v) new = at-place (F r q v) _ refl (new tt)
-    go (Decision v) new = at-place (Decision v) _ refl (new tt)
-
 module _ (i : ℕ) (m : Message) (k : ℕ) (l d : List ℕ) where
-  pub dated-length : length (dated i m k l d) ≡ length d
-  dated-length = dating (λ (e : List ℕ) (t : ℕ). length e ≡ length d) i m k l d refl (λ is z. length-set d (placeOf i m) k)
-
-  -- at every other place, and where the entry was sent, the depth stays
-  pub dated-other : (q : ℕ) → q ≢ placeOf i m → getD (dated i m k l d) q 0 ≡ getD d q 0
-  dated-other q ne = dating (λ (e : List ℕ) (t : ℕ). getD e q 0 ≡ getD d q 0) i m k l d refl (λ is z. other d (placeOf i m) k q ne)
-
   -- it is at most what bounds the others, and what turned
   dated-bound : (q b : ℕ) → placeOf i m < length d → getD d q 0 + 1 ≤ b → k ≤ b → getD (dated i m k l d) q 0 + 1 ≤ b + turned i m l
   dated-bound q b lt old new =
@@ -410,7 +384,7 @@ deep-more a (s ∷ ss) ts = deep-more (next a s) ss ts
 
 -- ---- statement 10
 
-after-forgets : (vs : List ℕ) (a : DeepState) (ss : List Step) → DeepBasic vs a → forgotten (after a ss) ≡ run.after (forgotten a) ss
+pub after-forgets : (vs : List ℕ) (a : DeepState) (ss : List Step) → DeepBasic vs a → forgotten (after a ss) ≡ run.after (forgotten a) ss
 unfolding after run.after
 after-forgets vs a [] h = refl
 after-forgets vs a (s ∷ ss) h =
@@ -420,7 +394,7 @@ pub depths-change-nothing : DepthsChangeNothing
 depths-change-nothing vs l d ss b =
     after-forgets vs (startState vs l d) ss (deep-start vs l d b) ∙ ap (λ (a : State). run.after a ss) (start-forgets vs l d b)
 
-answers-forget : (vs : List ℕ) (a : DeepState) (ss : List Step) → DeepBasic vs a → answers a ss ≡ run.answers (forgotten a) ss
+pub answers-forget : (vs : List ℕ) (a : DeepState) (ss : List Step) → DeepBasic vs a → answers a ss ≡ run.answers (forgotten a) ss
 unfolding answers run.answers
 answers-forget vs a [] h = refl
 answers-forget vs a (s ∷ ss) h =

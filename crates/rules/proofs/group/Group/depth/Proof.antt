@@ -27,13 +27,13 @@ returns : tie.Need-returns
 returns c = outside _ _ (sym (c .before .among .ensures) ∙ not-true _ (c .if1 .taken))
 
 cast-depth-of : tie.Need-cast-depth-of
-cast-depth-of c = omega (arith, among-true 16 (c .before .before .before .before .args .i) (sym (c .before .before .before .among .ensures) ∙ not-false _ (c .before .before .if1 .left)))
+cast-depth-of c = omega (arith, among-true 16 (c .before .before .before .before .args .process) (sym (c .before .before .before .among .ensures) ∙ not-false _ (c .before .before .if1 .left)))
 
 depth-of-requires : tie.Need-depth-of-requires
-depth-of-requires c κs = omega (arith, among-true 16 (c .before .before .before .before .args .i) (sym (c .before .before .before .among .ensures) ∙ not-false _ (c .before .before .if1 .left)))
+depth-of-requires c κs = omega (arith, among-true 16 (c .before .before .before .before .args .process) (sym (c .before .before .before .among .ensures) ∙ not-false _ (c .before .before .if1 .left)))
 
 returns-2 : tie.Need-returns-2
-returns-2 c = c .depth-of .ensures ∙ inside (c .before .before .before .before .before .args .self) (c .before .before .before .before .before .args .i) (sym (c .before .before .before .before .among .ensures) ∙ not-false _ (c .before .before .before .if1 .left))
+returns-2 c = c .depth-of .ensures ∙ inside (c .before .before .before .before .before .args .self) (c .before .before .before .before .before .args .process) (sym (c .before .before .before .before .among .ensures) ∙ not-false _ (c .before .before .before .if1 .left))
 
 pub depth-spec : {M : Type 1} → statement M
 depth-spec = tie.close (tie.spec among-requires returns cast-depth-of depth-of-requires returns-2)

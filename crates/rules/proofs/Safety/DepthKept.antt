@@ -1,0 +1,163 @@
+-- What changes no depth: being down and recovering, a pause, a crash, a suspicion; and a cut leaves the depth of the same step uncut. Assumes nothing.
+use mathlib.Core.Path.{_≡_, refl, sym, ap, subst, _∙_}
+use mathlib.Core.Bool.{Bool, true, false, _&&_, not}
+use mathlib.Core.List.{List, [], _∷_}
+use mathlib.Core.Logic.{_≢_, _⊎_, inl, inr}
+use Prim.Native.Nat.{ℕ, zero, suc, _+_, _≤_, max}
+use native.Mathlib.Omega.{arith}
+use lib.ListN.{length}
+use borrow.Author.Tests.{not-false}
+use Rattle.rules.specs.declared.group.Group.{Group}
+use Rattle.rules.specs.declared.process.Process.{Process}
+use Rattle.rules.specs.declared.step.Step.{Step}
+use Rattle.rules.specs.declared.step.Step.the-variants.{DeliverE, DeliverS, DeliverF, DeliverDecision, Suspect, Pause, Crash, Recover}
+use Rattle.rules.specs.Limits.{greatestSize}
+use Rattle.rules.specs.Records.{processAt}
+use Rattle.rules.specs.Events.{cutIf}
+use Rattle.rules.specs.Steps.{takerOf, numbersOf, roundOf, delivers, slotOf, isCut, entryIn, eventOf}
+use Rattle.rules.specs.Idle.{idle}
+use Rattle.rules.specs.Refusals.{strange, late, isRecover, down, unsent, misnamed, impossible, recoversPast, entersPast, refusalBy}
+use Rattle.rules.specs.Step.{orIdle, unlessRefused}
+use Rattle.rules.specs.Step as base
+use Rattle.rules.specs.Depths.{depthIn, tooDeep, refusal, course, settled, stepped}
+use Rattle.rules.specs.Run.{State}
+use Rattle.rules.specs.Run as run
+use Rattle.rules.specs.Safety.{Of, DownThrough, cut}
+use Rattle.rules.specs.DepthRun.{DeepState, next, after, at, depthOf, messageDepth, applied, forgotten, DepthRecovery, GoingDownKeepsDepth, CutKeepsDepth}
+use Rattle.rules.proofs.ForgetLaws.{process-forgets}
+use Rattle.rules.proofs.Safety.Cases.{never}
+use Rattle.rules.proofs.Safety.Depths.{DeepBasic, deep-basic, deep-basic-after, deep-next, next-forgets, depths-change-nothing}
+use Rattle.rules.proofs.Safety.DepthSteps.{Heard, depth-unheard}
+use Rattle.rules.proofs.Safety.Chains.{applied-passed, rest-false, heard-or, depth-cases, depth-own}
+
+-- ---- being down
+
+no-recover : (s : Step) → delivers s ≡ true → isRecover s ≡ false
+unfolding delivers isRecover
+no-recover (DeliverE i j r c) e = refl
+no-recover (DeliverS i j r c) e = refl
+no-recover (DeliverF i j r c) e = refl
+no-recover (DeliverDecision i j c) e = refl
+no-recover (Suspect i c) e = never refl e
+no-recover (Pause i) e = never refl e
+no-recover (Crash i) e = never refl e
+no-recover (Recover i) e = never refl e
+
+-- a delivery is heard by a process that is up
+heard-up : (a : DeepState) (s : Step) → Heard a s → processAt (a .group) (takerOf s) .up ≡ true
+unfolding down
+heard-up a s e =
+    not-false (processAt (a .group) (takerOf s) .up)
+    (rest-false (not (isRecover s)) (not (processAt (a .group) (takerOf s) .up)) (ap not (no-recover s (e .delivery))) (applied-passed a s (e .taken) .up))
+
+-- so a step leaves the depth of one that is down
+down-next : (vs : List ℕ) (a : DeepState) (s : Step) (i : ℕ) → DeepBasic vs a → 1 ≤ i → processAt (a .group) i .up ≡ false → depthOf (next a s) i ≡ depthOf a i
+down-next vs a s i h lo d =
+    depth-unheard vs a h s i lo (λ e f. never d (ap (λ (k : ℕ). processAt (a .group) k .up) (sym f) ∙ heard-up a s e))
+
+-- and so do many, while it stays down
+down-after : (vs : List ℕ) (a : DeepState) (ts : List Step) (i : ℕ) → DeepBasic vs a → 1 ≤ i → i ≤ greatestSize → DownThrough (forgotten a) ts i
+    → depthOf (after a ts) i ≡ depthOf a i
+unfolding after DownThrough
+down-after vs a [] i h lo hi d = refl
+down-after vs a (s ∷ ts) i h lo hi d =
+    down-after vs (next a s) ts i (deep-next vs a h s) lo hi (subst (λ (b : State). DownThrough b ts i) (sym (next-forgets vs a h s)) (d .1))
+    ∙ down-next vs a s i h lo (ap (λ (p : Process). p .up) (sym (process-forgets (a .group) i (h .sized) hi)) ∙ d .0)
+
+-- ---- steps that deliver nothing
+
+quiet-next : (vs : List ℕ) (a : DeepState) (s : Step) (i : ℕ) → DeepBasic vs a → 1 ≤ i → delivers s ≡ false → depthOf (next a s) i ≡ depthOf a i
+quiet-next vs a s i h lo e = depth-unheard vs a h s i lo (λ k. never e (k .delivery))
+
+pub depth-recovery : DepthRecovery
+unfolding delivers
+depth-recovery vs l d ss b ts i o down =
+    let h = deep-basic vs l d ss b in
+    let hi : i ≤ greatestSize = omega (arith, o .high, b .begins .few) in
+    let still = down-after vs (at vs l d ss) ts i h (o .low) hi (subst (λ (c : State). DownThrough c ts i) (sym (depths-change-nothing vs l d ss b)) down) in
+    (still, quiet-next vs (after (at vs l d ss) ts) (Recover i) i (deep-basic-after vs (at vs l d ss) ts h) (o .low) refl ∙ still)
+
+pub going-down-keeps-depth : GoingDownKeepsDepth
+unfolding delivers
+going-down-keeps-depth vs l d ss b i c o =
+    let h = deep-basic vs l d ss b in (
+      quiet-next vs (at vs l d ss) (Pause i) i h (o .low) refl,
+      quiet-next vs (at vs l d ss) (Crash i) i h (o .low) refl,
+      quiet-next vs (at vs l d ss) (Suspect i c) i h (o .low) refl,
+    )
+
+-- ---- a cut
+
+-- a step is applied where it is neither refused nor idle, and is not refused where it is applied
+passed-applied : (a : DeepState) (s : Step) → refusal (a .group) (a .store) (a .depths) s ≡ 0 → idle (a .group) s ≡ false → applied a s ≡ true
+unfolding stepped settled course unlessRefused base.settled orIdle
+passed-applied a s z e =
+    ap (λ (k : ℕ). base.settled (a .group) (a .store) (unlessRefused k (a .group) (a .store) s) .says .applied) z
+    ∙ ap
+    (λ (t : Bool). base.settled (a .group) (a .store) (orIdle t (isCut s) (takerOf s) (processAt (a .group) (takerOf s)) (eventOf (a .group) (a .store) s)) .says .applied)
+    e
+
+applied-number : (a : DeepState) (s : Step) → applied a s ≡ true → refusal (a .group) (a .store) (a .depths) s ≡ 0
+unfolding stepped settled course unlessRefused base.settled
+applied-number a s = go (refusal (a .group) (a .store) (a .depths) s)
+  where
+    go : (k : ℕ) → base.settled (a .group) (a .store) (unlessRefused k (a .group) (a .store) s) .says .applied ≡ true → k ≡ 0
+    go zero e = refl
+    go (suc k) e = never refl e
+
+-- what does not look at it
+record CutSame (g : Group) (l d : List ℕ) (s : Step) : Type 0 where
+  delivery : delivers (cut s) ≡ delivers s
+  number : refusal g l d (cut s) ≡ refusal g l d s
+  idleness : idle g (cut s) ≡ idle g s
+  taker : takerOf (cut s) ≡ takerOf s
+  place : slotOf (cut s) ≡ slotOf s
+
+cut-same : (g : Group) (l d : List ℕ) (s : Step) → CutSame g l d s
+unfolding cut delivers refusal refusalBy tooDeep depthIn strange numbersOf late roundOf down isRecover takerOf unsent entryIn slotOf misnamed impossible recoversPast entersPast idle eventOf
+cut-same g l d (DeliverE i j r c) = record { delivery = refl; number = refl; idleness = refl; taker = refl; place = refl }
+cut-same g l d (DeliverS i j r c) = record { delivery = refl; number = refl; idleness = refl; taker = refl; place = refl }
+cut-same g l d (DeliverF i j r c) = record { delivery = refl; number = refl; idleness = refl; taker = refl; place = refl }
+cut-same g l d (DeliverDecision i j c) = record { delivery = refl; number = refl; idleness = refl; taker = refl; place = refl }
+cut-same g l d (Suspect i c) = record { delivery = refl; number = refl; idleness = refl; taker = refl; place = refl }
+cut-same g l d (Pause i) = record { delivery = refl; number = refl; idleness = refl; taker = refl; place = refl }
+cut-same g l d (Crash i) = record { delivery = refl; number = refl; idleness = refl; taker = refl; place = refl }
+cut-same g l d (Recover i) = record { delivery = refl; number = refl; idleness = refl; taker = refl; place = refl }
+
+module _ (vs : List ℕ) (a : DeepState) (h : DeepBasic vs a) (s : Step) where
+  same : CutSame (a .group) (a .store) (a .depths) s
+  same = cut-same (a .group) (a .store) (a .depths) s
+
+  -- heard cut, it is heard uncut, and the other way round
+  heard-cut : Heard a s → Heard a (cut s)
+  heard-cut e =
+      record {
+        delivery = same .delivery ∙ e .delivery;
+        taken = passed-applied a (cut s) (same .number ∙ applied-number a s (e .taken)) (same .idleness ∙ e .not-idle);
+        not-idle = same .idleness ∙ e .not-idle;
+      }
+
+  cut-heard : Heard a (cut s) → Heard a s
+  cut-heard e =
+      record {
+        delivery = sym (same .delivery) ∙ e .delivery;
+        taken = passed-applied a s (sym (same .number) ∙ applied-number a (cut s) (e .taken)) (sym (same .idleness) ∙ e .not-idle);
+        not-idle = sym (same .idleness) ∙ e .not-idle;
+      }
+
+  cut-depth : (i : ℕ) → 1 ≤ i → depthOf (next a (cut s)) i ≡ depthOf (next a s) i
+  cut-depth i lo = go (depth-cases vs a h s i lo) (depth-cases vs a h (cut s) i lo)
+    where
+      go : (Heard a s × (takerOf s ≡ i)) ⊎ (depthOf (next a s) i ≡ depthOf a i)
+          → (Heard a (cut s) × (takerOf (cut s) ≡ i)) ⊎ (depthOf (next a (cut s)) i ≡ depthOf a i)
+          → depthOf (next a (cut s)) i ≡ depthOf (next a s) i
+      go (inl e) f =
+          depth-own vs a h (cut s) i lo (heard-cut (e .0)) (same .taker ∙ e .1)
+          ∙ ap (λ (k : ℕ). max (depthOf a i) (messageDepth a k + 1)) (same .place) ∙ sym (depth-own vs a h s i lo (e .0) (e .1))
+      go (inr e) (inr f) = f ∙ sym e
+      go (inr e) (inl f) =
+          depth-own vs a h (cut s) i lo (f .0) (f .1) ∙ ap (λ (k : ℕ). max (depthOf a i) (messageDepth a k + 1)) (same .place)
+          ∙ sym (depth-own vs a h s i lo (cut-heard (f .0)) (sym (same .taker) ∙ f .1))
+
+pub cut-keeps-depth : CutKeepsDepth
+cut-keeps-depth vs l d ss b s i o = cut-depth vs (at vs l d ss) (deep-basic vs l d ss b) s i (o .low)
