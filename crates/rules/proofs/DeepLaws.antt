@@ -21,7 +21,6 @@ use Rattle.rules.specs.Records.{processAt, withProcess, depthAt, withDep
 use Rattle.rules.specs.Store.{handOver, cleared}
 use Rattle.rules.specs.Answers.{saysRefused}
 use Rattle.rules.specs.Steps.{takerOf, delivers}
-use Rattle.rules.specs.Idle.{idle}
 use Rattle.rules.specs.Refusals.{row, short, miscounted}
 use Rattle.rules.specs.Start.{startedTo, firstMessage, begun}
 use Rattle.rules.specs.Step.{unlessRefused, handOvers, sentBy}
@@ -72,11 +71,15 @@ unfolding raised
 raised-fits true m k h le = omega (arith, h refl)
 raised-fits false m k h le = le
 
+-- only a delivery raises one
+raises-delivers : (g : Group) (s : Step) → raises g s ≡ true → delivers s ≡ true
+unfolding raises
+raises-delivers g s e = and-left (delivers s) _ e
+
 after-fits : (g : Group) (l d : List ℕ) (s : Step) → DeepPassed g l d s → depthAt g (takerOf s) ≤ deepestProcess → depthAfter g d s ≤ deepestProcess
-unfolding depthAfter raises tooDeep
+unfolding depthAfter tooDeep
 after-fits g l d s h le =
-    raised-fits (delivers s && not (idle g s)) (depthIn d s) (depthAt g (takerOf s))
-    (λ e. shallow (delivers s) (and-left (delivers s) (not (idle g s)) e) (h .shallow)) le
+    raised-fits (raises g s) (depthIn d s) (depthAt g (takerOf s)) (λ e. shallow (delivers s) (raises-delivers g s e) (h .shallow)) le
   where
     shallow : (t : Bool) → t ≡ true → (t && ltb deepestMessage (depthIn d s)) ≡ false → depthIn d s ≤ deepestMessage
     shallow true e f = ltb-false deepestMessage (depthIn d s) f

@@ -14,4 +14,5 @@ pub mod StepLaws
 pub mod CourseLaws
 pub mod Unique
 pub mod Table
+pub mod DepthTable
 pub mod Safety

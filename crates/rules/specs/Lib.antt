@@ -23,6 +23,7 @@ pub mod Run
 pub mod Safety
 -- a run with depths
 pub mod DepthRun
+pub mod DepthTable
 pub mod Table
 -- for the contracts of private functions alone
 pub mod Parts

@@ -4,19 +4,26 @@ use mathlib.Core.List.{List, [], _∷_, _++_}
 use native.Mathlib.Omega.{arith}
 use Prim.Native.Nat.{ℕ, zero, suc, _+_, _≤_, _<_, _^_}
 use lib.ListN.{length, getD}
-use Rattle.rules.specs.Limits.{storeLength}
+use Rattle.rules.specs.Limits.{greatestSize, storeLength}
 use Rattle.rules.specs.Tally.{bitOf}
-use Rattle.rules.specs.Records.{processAt}
+use Rattle.rules.specs.Records.{processAt, depthAt, Sized}
 use Rattle.rules.specs.Store.{sentIn}
 use Rattle.rules.specs.Answers.{Said}
 use Rattle.rules.specs.Step.{settled, stepped, course}
 use Rattle.rules.specs.Run.{State, startState, next, after, answers}
 use Rattle.rules.specs.Safety.{Begins, at, Of, Holds, sumSent, recoversOf}
+use Rattle.rules.specs.DepthRun.{DeepState, DeepBegins, forgetting, Longest}
+use Rattle.rules.specs.DepthRun as deep
 use Rattle.rules.specs.declared.group.Group.{Group}
+use Rattle.rules.specs.declared.process.Process.{Process}
 use Rattle.rules.specs.declared.course.Course.{Course}
 use Rattle.rules.specs.declared.course.Course.the-variants.{Idles, Refuses, Takes}
 use Rattle.rules.specs.declared.step.Step.{Step}
+use Rattle.rules.proofs.CountLaws.{count-ext}
+use Rattle.rules.proofs.ForgetLaws.{process-forgets}
 use Rattle.rules.proofs.Safety.Basics.{after-more}
+use Rattle.rules.proofs.Safety.Chains.{depth-is-longest}
+use Rattle.rules.proofs.Safety.Depths.{DeepBasic, deep-basic, deep-few, deep-more, depths-change-nothing, answers-forget, answers-stay}
 use Rattle.rules.proofs.Safety.Entries.{sent-counts}
 use Rattle.rules.proofs.Safety.Theorem.{safety}
 use Rattle.schedule.specs.Number.{most}
@@ -67,17 +74,21 @@ counted-adds c a (s ∷ ss) h =
     counted-adds (counted c (stepped (a .group) (a .store) s .says)) (next a s) ss
     (counted-one c (stepped (a .group) (a .store) s .says) (step-one (a .group) (a .store) s) h)
 
+-- the counts of a section without depths
+abbrev counts : State → List Step → Counts
+counts a ss = countedAll none (answers a ss)
+
 module _ (a : State) (ss : List Step) where
-  section-steps : countsOf a ss .steps ≡ length ss
-  unfolding countsOf none
+  section-steps : counts a ss .steps ≡ length ss
+  unfolding none
   section-steps = omega (arith, counted-steps none a ss)
 
-  section-adds : AddsUp (countsOf a ss)
-  unfolding countsOf none
+  section-adds : AddsUp (counts a ss)
+  unfolding none
   section-adds = counted-adds none a ss refl
 
-  section-sent : countsOf a ss .sent ≡ sumSent (answers a ss)
-  unfolding countsOf none
+  section-sent : counts a ss .sent ≡ sumSent (answers a ss)
+  unfolding none
   section-sent = omega (arith, counted-sent none (answers a ss))
 
 -- ---- two sections
@@ -108,58 +119,136 @@ fits-begins h l f long =
       long = long;
     }
 
--- ---- the promise
+-- ---- the run without depths
 
 module _ (h : Schedule) (l : List ℕ) (b : Begins (h .values) l) where
-  -- the end is the state after the steps of both sections
-  end-is : at (h .values) l (h .warmup ++ h .measured) ≡ atEnd h l
-  end-is = after-more (begins h l) (h .warmup) (h .measured)
+  -- its states: the start, between the sections, and the end
+  abbrev first : State
+  first = startState (h .values) l
 
-  sent-both : sentIn (atEnd h l .store) storeLength ≡ 1 + (countsOf (begins h l) (h .warmup) .sent + countsOf (between h l) (h .measured) .sent)
+  abbrev middle : State
+  middle = after first (h .warmup)
+
+  abbrev last : State
+  last = after middle (h .measured)
+
+  -- the end is the state after the steps of both sections
+  end-is : at (h .values) l (h .warmup ++ h .measured) ≡ last
+  end-is = after-more first (h .warmup) (h .measured)
+
+  sent-both : sentIn (last .store) storeLength ≡ 1 + (counts first (h .warmup) .sent + counts middle (h .measured) .sent)
   sent-both =
       let all = sent-counts (h .values) l (h .warmup ++ h .measured) b in
-      let same : sentIn (at (h .values) l (h .warmup ++ h .measured) .store) storeLength ≡ sentIn (atEnd h l .store) storeLength =
+      let same : sentIn (at (h .values) l (h .warmup ++ h .measured) .store) storeLength ≡ sentIn (last .store) storeLength =
       ap (λ (a : State). sentIn (a .store) storeLength) end-is in
-      let parts = sent-more (begins h l) (h .warmup) (h .measured) in
-      let one = section-sent (begins h l) (h .warmup) in
-      let two = section-sent (between h l) (h .measured) in
+      let parts = sent-more first (h .warmup) (h .measured) in
+      let one = section-sent first (h .warmup) in
+      let two = section-sent middle (h .measured) in
       omega arith
 
-  decided-both : decidedIn (atEnd h l .group) ≡ countsOf (begins h l) (h .warmup) .decided + countsOf (between h l) (h .measured) .decided
-  unfolding countsOf none
+  decided-both : decidedIn (last .group) ≡ counts first (h .warmup) .decided + counts middle (h .measured) .decided
+  unfolding none
   decided-both =
       let r = reached-start (h .values) l in
-      let first = run-decided (h .values) l b none (begins h l) (h .warmup) r in
-      let second = run-decided (h .values) l b none (between h l) (h .measured) (reached-after (h .values) l (begins h l) (h .warmup) r) in
+      let one = run-decided (h .values) l b none first (h .warmup) r in
+      let two = run-decided (h .values) l b none middle (h .measured) (reached-after (h .values) l first (h .warmup) r) in
       let start = start-decided (h .values) l b in
       omega arith
 
+-- ---- the run with depths
+
+-- forgetting the depths leaves every record, so that as many hold a decision
+forgets-decided : (g : Group) → Sized g → g .n ≤ greatestSize → decidedIn (forgetting g) ≡ decidedIn g
+unfolding forgetting
+forgets-decided g sized few =
+    count-ext (λ i. processAt g i .decided) (λ i. processAt (forgetting g) i .decided) (g .n)
+    (λ i lo hi. ap (λ (p : Process). p .decided) (process-forgets g i sized (omega (arith, few))))
+
+module _ (h : Schedule) (l d : List ℕ) (b : DeepBegins (h .values) l d) where
+  abbrev steps : List Step
+  steps = h .warmup ++ h .measured
+
+  -- the end is the state after the steps of both sections
+  deep-end : deep.at (h .values) l d steps ≡ atEnd h l d
+  deep-end = deep-more (begins h l d) (h .warmup) (h .measured)
+
+  end-basic : DeepBasic (h .values) (atEnd h l d)
+  end-basic = subst (DeepBasic (h .values)) deep-end (deep-basic (h .values) l d steps b)
+
+  -- with the depths forgotten it is the end of the run without them
+  end-forgets : deep.forgotten (atEnd h l d) ≡ last h l (b .begins)
+  end-forgets = ap deep.forgotten (sym deep-end) ∙ depths-change-nothing (h .values) l d steps b ∙ end-is h l (b .begins)
+
+  -- the counts are the same
+  first-counts : countsOf (begins h l d) (h .warmup) ≡ counts (first h l (b .begins)) (h .warmup)
+  unfolding countsOf
+  first-counts = ap (countedAll none) (answers-stay (h .values) l d (h .warmup) b)
+
+  second-counts : countsOf (between h l d) (h .measured) ≡ counts (middle h l (b .begins)) (h .measured)
+  unfolding countsOf
+  second-counts =
+      ap (countedAll none)
+      (answers-forget (h .values) (between h l d) (h .measured) (deep-basic (h .values) l d (h .warmup) b)
+      ∙ ap (λ (a : State). answers a (h .measured)) (depths-change-nothing (h .values) l d (h .warmup) b))
+
+  -- so is each record at the end
+  end-process : (i : ℕ) → Of (h .values) i → processAt (atEnd h l d .group) i ≡ processAt (at (h .values) l steps .group) i
+  end-process i o =
+      sym (process-forgets (atEnd h l d .group) i (end-basic .sized) (omega (arith, o .high, b .begins .few)))
+      ∙ ap (λ (a : State). processAt (a .group) i) (end-forgets ∙ sym (end-is h l (b .begins)))
+
   -- a decision that the group at the end holds is one of the run's
-  held : (i v : ℕ) → Decided (atEnd h l .group) i v → Holds (at (h .values) l (h .warmup ++ h .measured)) i v
-  held i v d = subst (λ (a : State). Holds a i v) (sym end-is) (record { decided = d .decided; decision = d .decision })
+  held : (i v : ℕ) → Of (h .values) i → Decided (atEnd h l d .group) i v → Holds (at (h .values) l steps) i v
+  held i v o x =
+      let e = end-process i o in
+      record {
+        decided = ap (λ (p : Process). p .decided) (sym e) ∙ x .decided;
+        decision = ap (λ (p : Process). p .decision) (sym e) ∙ x .decision;
+      }
 
-  recoveries-both : (i : ℕ) → Of (h .values) i → processAt (atEnd h l .group) i .recoveries ≡ recoversOf i (startState (h .values) l) (h .warmup ++ h .measured)
-  recoveries-both i o =
-      ap (λ (a : State). processAt (a .group) i .recoveries) (sym end-is) ∙ safety .recoveries (h .values) l (h .warmup ++ h .measured) b i o
+  end-decided : decidedIn (atEnd h l d .group) ≡ decidedIn (last h l (b .begins) .group)
+  end-decided =
+      sym (forgets-decided (atEnd h l d .group) (end-basic .sized) (deep-few (h .values) (atEnd h l d) end-basic))
+      ∙ ap (λ (a : State). decidedIn (a .group)) end-forgets
 
-  run-promise : Promise h l (outcome (hasRun h l) (atEnd h l .store))
+  end-depth : (i : ℕ) → Of (h .values) i → Longest (h .values) l steps i (depthAt (atEnd h l d .group) i)
+  end-depth i o = subst (λ (a : DeepState). Longest (h .values) l steps i (depthAt (a .group) i)) deep-end (depth-is-longest (h .values) l d steps b i o)
+
+  run-promise : Promise h l (outcome (hasRun h l d) (atEnd h l d .store) (atEnd h l d .depths))
   unfolding hasRun
   run-promise =
       record {
-        warmup = section-steps (begins h l) (h .warmup);
-        measured = section-steps (between h l) (h .measured);
-        warmup-adds = section-adds (begins h l) (h .warmup);
-        measured-adds = section-adds (between h l) (h .measured);
-        sent = sent-both;
-        decided = decided-both;
-        agreement = λ i j v w oi oj di dj. safety .agreement (h .values) l (h .warmup ++ h .measured) b i j v w oi oj (held i v di) (held j w dj);
-        validity = λ i v o d. safety .validity (h .values) l (h .warmup ++ h .measured) b i v o (held i v d);
-        recoveries = recoveries-both;
+        warmup = ap (λ (c : Counts). c .steps) first-counts ∙ section-steps (first h l (b .begins)) (h .warmup);
+        measured = ap (λ (c : Counts). c .steps) second-counts ∙ section-steps (middle h l (b .begins)) (h .measured);
+        warmup-adds = subst AddsUp (sym first-counts) (section-adds (first h l (b .begins)) (h .warmup));
+        measured-adds = subst AddsUp (sym second-counts) (section-adds (middle h l (b .begins)) (h .measured));
+        sent =
+            omega (
+              arith,
+              sent-both h l (b .begins),
+              ap (λ (a : State). sentIn (a .store) storeLength) end-forgets,
+              ap (λ (c : Counts). c .sent) first-counts,
+              ap (λ (c : Counts). c .sent) second-counts,
+            );
+        decided =
+            omega (
+              arith,
+              end-decided,
+              decided-both h l (b .begins),
+              ap (λ (c : Counts). c .decided) first-counts,
+              ap (λ (c : Counts). c .decided) second-counts,
+            );
+        agreement = λ i j v w oi oj di dj. safety .agreement (h .values) l steps (b .begins) i j v w oi oj (held i v oi di) (held j w oj dj);
+        validity = λ i v o x. safety .validity (h .values) l steps (b .begins) i v o (held i v o x);
+        recoveries = λ i o. ap (λ (p : Process). p .recoveries) (end-process i o) ∙ safety .recoveries (h .values) l steps (b .begins) i o;
+        depths = end-depth;
       }
 
-run-is : (s l : List ℕ) (h : Schedule) → readFile s ≡ sound h → runOf s l ≡ outcome (hasRun h l) (atEnd h l .store)
+run-is : (s l d : List ℕ) (h : Schedule) → readFile s ≡ sound h → runOf s l d ≡ outcome (hasRun h l d) (atEnd h l d .store) (atEnd h l d .depths)
 unfolding runOf runBy
-run-is s l h e = ap (λ (r : Reading). runBy r l) e
+run-is s l d h e = ap (λ (r : Reading). runBy r l d) e
 
 pub promised : Promised
-promised s l h e long = subst (Promise h l) (sym (run-is s l h e)) (run-promise h l (fits-begins h l (file-read s h e .1) long))
+promised s l d h e long deep-long =
+    subst (Promise h l) (sym (run-is s l d h e))
+    (run-promise h l d (record { begins = fits-begins h l (file-read s h e .1) long; long = deep-long }))

@@ -2,31 +2,28 @@
 use Prim.Native.Nat.{ℕ, zero, suc, _+_, _-_, _≤_}
 use mathlib.Core.Path.{_≡_, refl, sym, ap, _∙_}
 use mathlib.Core.Bool.{Bool, true, false}
-use mathlib.Core.List.{List, _++_}
+use mathlib.Core.List.{List, [], _∷_, _++_}
 use native.Mathlib.Omega.{arith}
 use native.Mathlib.Numerals.{add-one}
 use lib.Dec.{eqb}
 use lib.ListN.{length, getD, drop, length-append}
-use mir.Syntax.{w8, w32}
+use mir.Syntax.{w8, w16, w32}
 use mir.Val.{Fits}
 use borrow.Author.Tests.{eq-eqb, ne-eqb}
 use Rattle.rules.specs.Limits.{greatestSize, among}
-use Rattle.rules.specs.Records.{second, third, fourth, processAt, blank, recordIf, recordOf, blankGroup}
-use Rattle.rules.specs.Refusals.{startRefusal}
-use Rattle.rules.specs.Run.{State, startState, next, after}
-use Rattle.rules.specs.Start.{started, unlessRefusedStart, begun}
+use Rattle.rules.specs.Records.{second, third, fourth, processAt, blank, recordIf, recordOf, depthIn, depthAt, depthIf, depthOf, blankGroup}
+use Rattle.rules.specs.Depths.{started}
+use Rattle.rules.specs.DepthRun.{DeepState, startState, next, after}
 use Rattle.rules.specs.declared.group.Group.{Group}
 use Rattle.rules.specs.declared.process.Process.{Process}
 use Rattle.rules.specs.declared.step.Step.{Step}
-use Rattle.rules.proofs.GroupLaws.{started-size}
-use Rattle.rules.proofs.SoundLaws.{start-passed, step-size}
-use Rattle.rules.proofs.Safety.Basics.{onward}
+use Rattle.rules.proofs.DeepLaws.{deep-step-size, deep-starting}
 use Rattle.schedule.specs.Limits.{longestRecord, longestLine}
 use Rattle.schedule.specs.Number.{pick, most, spelled}
 use Rattle.schedule.specs.Put.{Wrote}
 use Rattle.schedule.specs.Schedule.{Reading, faulty, sound, readFile}
 use Rattle.schedule.specs.Run.{Outcome, outcome, runBy, runOf, hasRun, notRun, begins, between}
-use Rattle.schedule.specs.Report.{space, lf, appliedText, idleText, refusedText, sentText, decidedText, processesText, noneText, field, faultLine, takenText, sentEnd, sectionLine, processesLine, statusText, placeText, estimateText, decisionText, recoveriesEnd, recordText, lineOfProcess, processLines, doneText, reportOf, Reports}
+use Rattle.schedule.specs.Report.{space, lf, appliedText, idleText, refusedText, sentText, decidedText, processesText, noneText, field, faultLine, takenText, sentEnd, sectionLine, processesLine, statusText, placeText, estimateText, decisionText, depthEnd, recoveriesEnd, recordText, lineOfProcess, processLines, doneText, reportOf, Reports}
 use Rattle.schedule.specs.declared.counts.Counts.{Counts}
 use Rattle.schedule.specs.declared.run.Ran.{Ran}
 use Rattle.schedule.proofs.PutLaws.{spelled-long, wrote-same, wrote-more, wrote-first}
@@ -111,16 +108,25 @@ module _ (p : Process) (h : Narrow p) where
       go true = field-long space (p .decision) (h .decision)
       go false = omega arith
 
-  pub recoveries-long : length (recoveriesEnd p) ≤ 12
-  unfolding recoveriesEnd
-  recoveries-long = both-long (field space (p .recoveries)) lf (field-long space (p .recoveries) (h .recoveries)) one-long
+  module _ (k : ℕ) (m : k ≤ most) where
+    depth-long : length (depthEnd (p .decided) k) ≤ 12
+    unfolding depthEnd
+    depth-long = go (p .decided)
+      where
+        go : (x : Bool) → length (pick x (field space k ++ lf) (noneText ++ lf)) ≤ 12
+        go true = both-long (field space k) lf (field-long space k m) one-long
+        go false = omega arith
 
-  pub record-long : length (recordText p) ≤ longestRecord
-  unfolding recordText
-  record-long =
-      both-long (placeText p) (estimateText p ++ (decisionText p ++ recoveriesEnd p)) place-long
-      (both-long (estimateText p) (decisionText p ++ recoveriesEnd p) estimate-long
-      (both-long (decisionText p) (recoveriesEnd p) decision-long recoveries-long))
+    recoveries-long : length (recoveriesEnd p k) ≤ 23
+    unfolding recoveriesEnd
+    recoveries-long = both-long (field space (p .recoveries)) (depthEnd (p .decided) k) (field-long space (p .recoveries) (h .recoveries)) depth-long
+
+    pub record-long : length (recordText p k) ≤ longestRecord
+    unfolding recordText
+    record-long =
+        both-long (placeText p) (estimateText p ++ (decisionText p ++ recoveriesEnd p k)) place-long
+        (both-long (estimateText p) (decisionText p ++ recoveriesEnd p k) estimate-long
+        (both-long (decisionText p) (recoveriesEnd p k) decision-long recoveries-long))
 
 -- every record of a group whose numbers fit their widths
 pub record-narrow : (g : Group) → ((j : ℕ) → Fits w32 (getD (g .words) j 0)) → ((j : ℕ) → Fits w8 (getD (g .bytes) j 0)) → (i : ℕ) → Narrow (recordOf g i)
@@ -139,9 +145,18 @@ record-narrow g words bytes i = go (among greatestSize i)
         }
     go false = record { round = omega arith; phase = omega arith; proposer = omega arith; value = omega arith; decision = omega arith; recoveries = omega arith }
 
-pub line-long : (g : Group) (i : ℕ) → i ≤ most → Narrow (recordOf g i) → length (lineOfProcess g i) ≤ longestLine
+-- so does every depth
+pub depth-narrow : (g : Group) → ((j : ℕ) → Fits w16 (getD (g .halves) j 0)) → (i : ℕ) → depthOf g i ≤ most
+unfolding depthOf depthIf depthAt depthIn
+depth-narrow g halves i = go (among greatestSize i)
+  where
+    go : (x : Bool) → depthIf x g i ≤ most
+    go true = omega (arith, halves (third + (i - 1)))
+    go false = omega arith
+
+pub line-long : (g : Group) (i : ℕ) → i ≤ most → Narrow (recordOf g i) → depthOf g i ≤ most → length (lineOfProcess g i) ≤ longestLine
 unfolding lineOfProcess
-line-long g i m h = both-long (spelled i) (recordText (recordOf g i)) (spelled-long i m) (record-long (recordOf g i) h)
+line-long g i m h k = both-long (spelled i) (recordText (recordOf g i) (depthOf g i)) (spelled-long i m) (record-long (recordOf g i) h (depthOf g i) k)
 
 -- ---- pieces that are chosen, and lines one after the other
 
@@ -153,6 +168,14 @@ pub decision-none : (p : Process) → p .decided ≡ false → noneText ≡ deci
 unfolding decisionText
 decision-none p e = sym (ap (λ (x : Bool). pick x (field space (p .decision)) noneText) e)
 
+pub depth-some : (decided : Bool) (k : ℕ) → decided ≡ true → field space k ++ lf ≡ depthEnd decided k
+unfolding depthEnd
+depth-some decided k e = sym (ap (λ (x : Bool). pick x (field space k ++ lf) (noneText ++ lf)) e)
+
+pub depth-none : (decided : Bool) (k : ℕ) → decided ≡ false → noneText ++ lf ≡ depthEnd decided k
+unfolding depthEnd
+depth-none decided k e = sym (ap (λ (x : Bool). pick x (field space k ++ lf) (noneText ++ lf)) e)
+
 lines-more : (g : Group) (i : ℕ) → processLines g i ++ lineOfProcess g (i + 1) ≡ processLines g (i + 1)
 unfolding processLines
 lines-more g i = ap (λ (k : ℕ). processLines g i ++ lineOfProcess g k) (add-one i) ∙ ap (processLines g) (sym (add-one i))
@@ -163,47 +186,39 @@ wrote-line g i w v = wrote-same (lines-more g i) (wrote-more w v)
 
 -- ---- a run's group
 
--- a start's group has at most 16 processes: that of a refused start has none
-start-small : (vs l : List ℕ) → startState vs l .group .n ≤ greatestSize
-unfolding startState started unlessRefusedStart begun blankGroup
-start-small vs l = go (startRefusal vs l) refl
-  where
-    go : (k : ℕ) → startRefusal vs l ≡ k → unlessRefusedStart k vs l .group .n ≤ greatestSize
-    go zero e = omega (arith, start-passed vs l e, started-size vs (length vs))
-    go (suc k) e = omega arith
+-- steps keep the size
+after-small : (a : DeepState) (ss : List Step) → a .group .n ≤ greatestSize → after a ss .group .n ≤ greatestSize
+unfolding after next
+after-small a [] h = h
+after-small a (s ∷ ss) h = after-small (next a s) ss (omega (arith, deep-step-size (a .group) (a .store) (a .depths) s))
 
--- and steps keep the size
-after-small : (a : State) (ss : List Step) → a .group .n ≤ greatestSize → after a ss .group .n ≤ greatestSize
-unfolding next
-after-small = onward (λ (a : State). a .group .n ≤ greatestSize) (λ a s h. omega (arith, step-size (a .group) (a .store) s))
-
-pub ran-size : (s l : List ℕ) → runOf s l .ran .group .n ≤ 16
-unfolding runOf runBy hasRun notRun blankGroup
-ran-size s l = go (readFile s)
+pub ran-size : (s l d : List ℕ) → runOf s l d .ran .group .n ≤ 16
+unfolding runOf runBy hasRun notRun blankGroup startState started
+ran-size s l d = go (readFile s)
   where
-    go : (r : Reading) → runBy r l .ran .group .n ≤ 16
+    go : (r : Reading) → runBy r l d .ran .group .n ≤ 16
     go (faulty f) = omega arith
-    go (sound h) = after-small (between h l) (h .measured) (after-small (begins h l) (h .warmup) (start-small (h .values) l))
+    go (sound h) = after-small (between h l d) (h .measured) (after-small (begins h l d) (h .warmup) (deep-starting (h .values) l d .size))
 
 -- ---- the report of what was run
 
-module _ (s l : List ℕ) {l′ : List ℕ} (r : Ran) (runs : outcome r l′ ≡ runOf s l) where
+module _ (s l d : List ℕ) {l′ d′ : List ℕ} (r : Ran) (runs : outcome r l′ d′ ≡ runOf s l d) where
   pub runs-size : r .group .n ≤ 16
-  runs-size = omega (arith, ap (λ (o : Outcome). o .ran .group .n) runs, ran-size s l)
+  runs-size = omega (arith, ap (λ (o : Outcome). o .ran .group .n) runs, ran-size s l d)
 
-  reported : {out out′ : List ℕ} {k : ℕ} → Wrote out 0 (reportOf r) out′ k → Reports s l out l′ out′ k
-  reported w = record { bytes = wrote-same (ap (λ (o : Outcome). reportOf (o .ran)) runs) w; store = ap (λ (o : Outcome). o .store) runs }
+  reported : {out out′ : List ℕ} {k : ℕ} → Wrote out 0 (reportOf r) out′ k → Reports s l d out l′ d′ out′ k
+  reported w = record { bytes = wrote-same (ap (λ (o : Outcome). reportOf (o .ran)) runs) w; store = ap (λ (o : Outcome). o .store) runs; depths = ap (λ (o : Outcome). o .depths) runs }
 
   -- a faulty file's one line
-  pub report-bad : {out out′ : List ℕ} {k : ℕ} → (r .fault .number ≡ 0 → ⊥) → Wrote out 0 (faultLine (r .fault)) out′ k → Reports s l out l′ out′ k
+  pub report-bad : {out out′ : List ℕ} {k : ℕ} → (r .fault .number ≡ 0 → ⊥) → Wrote out 0 (faultLine (r .fault)) out′ k → Reports s l d out l′ d′ out′ k
   unfolding reportOf
   report-bad ne w = reported (wrote-same (sym (ap (λ (x : Bool). pick x (doneText r) (faultLine (r .fault))) (ne-eqb (r .fault .number) 0 ne))) w)
 
   -- and a sound one's lines
-  pub report-done : {out out′ : List ℕ} {k : ℕ} → r .fault .number ≡ 0 → Wrote out 0 (doneText r) out′ k → Reports s l out l′ out′ k
+  pub report-done : {out out′ : List ℕ} {k : ℕ} → r .fault .number ≡ 0 → Wrote out 0 (doneText r) out′ k → Reports s l d out l′ d′ out′ k
   unfolding reportOf
   report-done e w = reported (wrote-same (sym (ap (λ (x : Bool). pick x (doneText r) (faultLine (r .fault))) (eq-eqb (r .fault .number) 0 e))) w)
 
 -- what the contract says of the lent array: the report, and behind it what lay there
-pub report-whole : (s l : List ℕ) {l′ out out′ : List ℕ} {k : ℕ} → Reports s l out l′ out′ k → out′ ≡ reportOf (runOf s l .ran) ++ drop k out
-report-whole s l h = wrote-first (h .bytes)
+pub report-whole : (s l d : List ℕ) {l′ d′ out out′ : List ℕ} {k : ℕ} → Reports s l d out l′ d′ out′ k → out′ ≡ reportOf (runOf s l d .ran) ++ drop k out
+report-whole s l d h = wrote-first (h .bytes)

@@ -9,11 +9,12 @@ use lib.ListN.{length, getD}
 use Rattle.rules.specs.Limits.{storeLength}
 use Rattle.rules.specs.Tally.{bitOf}
 use Rattle.rules.specs.Records.{Sized}
-use Rattle.rules.specs.Refusals.{damaged}
 use Rattle.rules.specs.Store.{placeOf, handOver, turned}
-use Rattle.rules.specs.Answers.{Said, Outcome, outcome}
-use Rattle.rules.specs.Step.{stepped, settled, course, sentBy}
-use Rattle.rules.specs.Run.{State, stateOf, startState, next, after, answers}
+use Rattle.rules.specs.Answers.{Said}
+use Rattle.rules.specs.Step.{sentBy}
+use Rattle.rules.specs.Step as base
+use Rattle.rules.specs.Depths.{DeepOutcome, outcome, damaged, course, settled, stepped}
+use Rattle.rules.specs.DepthRun.{DeepState, stateOf, next, after, answers}
 use Rattle.rules.specs.Parts.{Ready}
 use Rattle.rules.specs.declared.group.Group.{Group}
 use Rattle.rules.specs.declared.process.Message.{Message}
@@ -22,7 +23,7 @@ use Rattle.rules.specs.declared.process.Next.{Next}
 use Rattle.rules.specs.declared.course.Course.{Course}
 use Rattle.rules.specs.declared.course.Course.the-variants.{Idles, Refuses, Takes}
 use Rattle.rules.specs.declared.step.Step.{Step}
-use Rattle.rules.proofs.SoundLaws.{sound-step, sized-step, step-length}
+use Rattle.rules.proofs.DeepLaws.{deep-sound-step, deep-sized-step, deep-step-length, depths-step-length}
 use Rattle.schedule.specs.Limits.{mostSteps}
 use Rattle.schedule.specs.Lines.{item, items, linesAt}
 use Rattle.schedule.specs.Line.{lineAt}
@@ -51,15 +52,15 @@ sent-two : (i : ℕ) (x : Next) (l : List ℕ) → sentBy i x l ≤ 2
 unfolding sentBy
 sent-two i x l = omega (arith, turned-one i (x .first) l, turned-one i (x .second) (handOver i (x .first) l))
 
-settled-two : (g : Group) (l : List ℕ) (k : Course) → settled g l k .says .sent ≤ 2
-unfolding settled
+settled-two : (g : Group) (l : List ℕ) (k : Course) → base.settled g l k .says .sent ≤ 2
+unfolding base.settled
 settled-two g l Idles = omega arith
 settled-two g l (Refuses k) = omega arith
 settled-two g l (Takes i x) = sent-two i x l
 
-pub step-two : (g : Group) (l : List ℕ) (s : Step) → stepped g l s .says .sent ≤ 2
-unfolding stepped
-step-two g l s = settled-two g l (course g l s)
+pub step-two : (g : Group) (l d : List ℕ) (s : Step) → stepped g l d s .says .sent ≤ 2
+unfolding stepped settled
+step-two g l d s = settled-two g l (course g l d s)
 
 -- ---- counts of i steps
 
@@ -101,7 +102,7 @@ counting-room c i h few =
 -- ---- while the steps are taken
 
 -- i of the count steps that stand from a place on are taken: from the state a₀ to the state a, with the counts c; the other lines begin at here
-pub record Going (s : List ℕ) (at count : ℕ) (a₀ a : State) (c : Counts) (i here : ℕ) : Type 0 where
+pub record Going (s : List ℕ) (at count : ℕ) (a₀ a : DeepState) (c : Counts) (i here : ℕ) : Type 0 where
   pub all : List Step
   pub rest : List Step
   pub end : ℕ
@@ -110,19 +111,20 @@ pub record Going (s : List ℕ) (at count : ℕ) (a₀ a : State) (c : Counts) (
   pub low : i ≤ count
   pub left : linesAt (lineAt s) (count - i) i here ≡ items rest end
   pub sized : Sized (a .group)
-  pub ready : Ready (a .group) (a .store)
+  pub ready : Ready (a .group) (a .store) (a .depths)
   pub counting : Counting c i
   pub state : after a₀ all ≡ after a rest
   pub counts : countsOf a₀ all ≡ countedAll c (answers a rest)
   pub same : length (a .store) ≡ length (a₀ .store)
+  pub deep-same : length (a .depths) ≡ length (a₀ .depths)
 
-pub counts-same : {s : List ℕ} {at count : ℕ} {a₀ a : State} {c d : Counts} {i here : ℕ} → c ≡ d → Going s at count a₀ a c i here → Going s at count a₀ a d i here
+pub counts-same : {s : List ℕ} {at count : ℕ} {a₀ a : DeepState} {c d : Counts} {i here : ℕ} → c ≡ d → Going s at count a₀ a c i here → Going s at count a₀ a d i here
 counts-same {s} {at} {count} {a₀} {a} {c} {d} {i} {here} e h = subst (λ (k : Counts). Going s at count a₀ a k i here) e h
 
 module _ (s : List ℕ) (at count : ℕ) where
-  pub going-none : (g : Group) (l : List ℕ) → RunReady s at count g l → Going s at count (stateWith g l) (stateWith g l) none 0 at
+  pub going-none : (g : Group) (l d : List ℕ) → RunReady s at count g l d → Going s at count (stateWith g l d) (stateWith g l d) none 0 at
   unfolding countsOf
-  going-none g l h =
+  going-none g l d h =
       record {
         all = h .steps;
         rest = h .steps;
@@ -137,9 +139,10 @@ module _ (s : List ℕ) (at count : ℕ) where
         state = refl;
         counts = refl;
         same = refl;
+        deep-same = refl;
       }
 
-  module _ (a₀ a : State) (c : Counts) (i here : ℕ) (h : Going s at count a₀ a c i here) (less : i < count) where
+  module _ (a₀ a : DeepState) (c : Counts) (i here : ℕ) (h : Going s at count a₀ a c i here) (less : i < count) where
     ahead : First (lineAt s) (count - (i + 1)) i here (h .rest) (h .end)
     ahead = lines-first (lineAt s) (count - (i + 1)) i here (h .rest) (h .end) (ap (λ (k : ℕ). linesAt (lineAt s) k i here) (sym (one-less count i less)) ∙ h .left)
 
@@ -150,7 +153,7 @@ module _ (s : List ℕ) (at count : ℕ) where
     pub going-room : Room c
     going-room = counting-room c i (h .counting) (omega (arith, h .few))
 
-    module _ (t : Taken) (e : lineAt s here ≡ lineRead t) (a′ : State) (x : Said) (o : outcome (a′ .group) (a′ .store) x ≡ stepped (a .group) (a .store) (t .step)) where
+    module _ (t : Taken) (e : lineAt s here ≡ lineRead t) (a′ : DeepState) (x : Said) (o : outcome (a′ .group) (a′ .store) (a′ .depths) x ≡ stepped (a .group) (a .store) (a .depths) (t .step)) where
       step-is : ahead .first ≡ t .step
       step-is = same-thing (sym (ahead .is) ∙ e)
 
@@ -164,34 +167,40 @@ module _ (s : List ℕ) (at count : ℕ) where
       unfolding next
       next-is = ap stateOf (sym o)
 
-      says-is : stepped (a .group) (a .store) (t .step) .says ≡ x
-      says-is = ap (λ (q : Outcome). q .says) (sym o)
+      says-is : stepped (a .group) (a .store) (a .depths) (t .step) .says ≡ x
+      says-is = ap (λ (q : DeepOutcome). q .says) (sym o)
 
-      group-is : stepped (a .group) (a .store) (t .step) .group ≡ a′ .group
-      group-is = ap (λ (q : Outcome). q .group) (sym o)
+      group-is : stepped (a .group) (a .store) (a .depths) (t .step) .group ≡ a′ .group
+      group-is = ap (λ (q : DeepOutcome). q .group) (sym o)
 
-      store-is : stepped (a .group) (a .store) (t .step) .store ≡ a′ .store
-      store-is = ap (λ (q : Outcome). q .store) (sym o)
+      store-is : stepped (a .group) (a .store) (a .depths) (t .step) .store ≡ a′ .store
+      store-is = ap (λ (q : DeepOutcome). q .store) (sym o)
+
+      depths-is : stepped (a .group) (a .store) (a .depths) (t .step) .depths ≡ a′ .depths
+      depths-is = ap (λ (q : DeepOutcome). q .depths) (sym o)
 
       state-on : after a (t .step ∷ ahead .others) ≡ after a′ (ahead .others)
       unfolding after
-      state-on = ap (λ (b : State). after b (ahead .others)) next-is
+      state-on = ap (λ (b : DeepState). after b (ahead .others)) next-is
 
       counts-on : countedAll c (answers a (t .step ∷ ahead .others)) ≡ countedAll (counted c x) (answers a′ (ahead .others))
       unfolding answers countedAll
-      counts-on = ap₂ (λ (y : Said) (b : State). countedAll (counted c y) (answers b (ahead .others))) says-is next-is
+      counts-on = ap₂ (λ (y : Said) (b : DeepState). countedAll (counted c y) (answers b (ahead .others))) says-is next-is
 
       sized-on : Sized (a′ .group)
-      sized-on = subst Sized group-is (sized-step (a .group) (a .store) (t .step) (h .sized))
+      sized-on = subst Sized group-is (deep-sized-step (a .group) (a .store) (a .depths) (t .step) (h .sized))
 
       sound-on : damaged (a′ .group) ≡ false
-      sound-on = ap damaged (sym group-is) ∙ sound-step (a .group) (a .store) (t .step) (h .sized) (h .ready .sound)
+      sound-on = ap damaged (sym group-is) ∙ deep-sound-step (a .group) (a .store) (a .depths) (t .step) (h .sized) (h .ready .sound)
 
       length-on : length (a′ .store) ≡ length (a .store)
-      length-on = ap length (sym store-is) ∙ step-length (a .group) (a .store) (t .step)
+      length-on = ap length (sym store-is) ∙ deep-step-length (a .group) (a .store) (a .depths) (t .step)
+
+      deep-length-on : length (a′ .depths) ≡ length (a .depths)
+      deep-length-on = ap length (sym depths-is) ∙ depths-step-length (a .group) (a .store) (a .depths) (t .step)
 
       two : x .sent ≤ 2
-      two = omega (arith, step-two (a .group) (a .store) (t .step), ap (λ (y : Said). y .sent) says-is)
+      two = omega (arith, step-two (a .group) (a .store) (a .depths) (t .step), ap (λ (y : Said). y .sent) says-is)
 
       -- one more step is taken
       pub going-on : Going s at count a₀ a′ (counted c x) (i + 1) (t .next)
@@ -205,25 +214,31 @@ module _ (s : List ℕ) (at count : ℕ) where
             low = omega arith;
             left = ap (linesAt (lineAt s) (count - (i + 1)) (i + 1)) (sym place-is) ∙ ahead .more;
             sized = sized-on;
-            ready = record { long = omega (arith, h .ready .long, length-on); sound = sound-on };
+            ready =
+                record {
+                  long = omega (arith, h .ready .long, length-on);
+                  deep-long = omega (arith, h .ready .deep-long, deep-length-on);
+                  sound = sound-on;
+                };
             counting = counting-more c i x (h .counting) two;
             state = h .state ∙ ap (after a) rest-is ∙ state-on;
             counts = h .counts ∙ ap (λ (ys : List Step). countedAll c (answers a ys)) rest-is ∙ counts-on;
             same = length-on ∙ h .same;
+            deep-same = deep-length-on ∙ h .deep-same;
           }
 
   -- all steps are taken
-  module _ (g : Group) (l : List ℕ) (g′ : Group) (l′ : List ℕ) (c : Counts) (i here : ℕ) (h : Going s at count (stateWith g l) (stateWith g′ l′) c i here) (done : count ≤ i) where
+  module _ (g : Group) (l d : List ℕ) (g′ : Group) (l′ d′ : List ℕ) (c : Counts) (i here : ℕ) (h : Going s at count (stateWith g l d) (stateWith g′ l′ d′) c i here) (done : count ≤ i) where
     none-left : h .rest ≡ []
     none-left = same-things (sym (h .left) ∙ ap (λ (k : ℕ). linesAt (lineAt s) k i here) (omega (arith, h .low)) ∙ lines-none (lineAt s) i here)
 
-    ran-all : RanSteps (h .all) g l g′ l′ c
+    ran-all : RanSteps (h .all) g l d g′ l′ d′ c
     unfolding after answers countedAll
     ran-all =
         record {
-          state = sym (h .state ∙ ap (after (stateWith g′ l′)) none-left);
-          counts = sym (h .counts ∙ ap (λ (ys : List Step). countedAll c (answers (stateWith g′ l′) ys)) none-left);
+          state = sym (h .state ∙ ap (after (stateWith g′ l′ d′)) none-left);
+          counts = sym (h .counts ∙ ap (λ (ys : List Step). countedAll c (answers (stateWith g′ l′ d′) ys)) none-left);
         }
 
-    pub going-done : RanTo s at count g l g′ l′ c
-    going-done ss m k = subst (λ (ys : List Step). RanSteps ys g l g′ l′ c) (same-things (sym (h .are .are) ∙ k .are)) ran-all
+    pub going-done : RanTo s at count g l d g′ l′ d′ c
+    going-done ss m k = subst (λ (ys : List Step). RanSteps ys g l d g′ l′ d′ c) (same-things (sym (h .are .are) ∙ k .are)) ran-all

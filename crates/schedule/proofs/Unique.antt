@@ -7,10 +7,20 @@ use Rattle.schedule.specs.Run.{Outcome, Runs}
 use Rattle.schedule.specs.Report.{Reports}
 use Rattle.schedule.specs.declared.run.Ran.{Ran}
 
--- of the run: the answer and the whole content of the store
-pub run-one : (s l : List ℕ) {r q : Ran} {a b : List ℕ} → Runs s l r a → Runs s l q b → (r ≡ q) × (a ≡ b)
-run-one s l x y = (ap (λ (o : Outcome). o .ran) (x ∙ sym y), ap (λ (o : Outcome). o .store) (x ∙ sym y))
+-- of the run: the answer and the whole content of both stores
+pub run-one : (s l d : List ℕ) {r q : Ran} {a b a′ b′ : List ℕ} → Runs s l d r a a′ → Runs s l d q b b′ → (r ≡ q) × (a ≡ b) × (a′ ≡ b′)
+run-one s l d x y = (
+  ap (λ (o : Outcome). o .ran) (x ∙ sym y),
+  ap (λ (o : Outcome). o .store) (x ∙ sym y),
+  ap (λ (o : Outcome). o .depths) (x ∙ sym y),
+)
 
--- of the report: the length, the whole content of the lent array and of the store
-pub report-one : {s l out a b out₁ out₂ : List ℕ} {r q : ℕ} → Reports s l out a out₁ r → Reports s l out b out₂ q → (r ≡ q) × (out₁ ≡ out₂) × (a ≡ b)
-report-one x y = (x .bytes .end ∙ sym (y .bytes .end), x .bytes .bytes ∙ sym (y .bytes .bytes), x .store ∙ sym (y .store))
+-- of the report: the length, the whole content of the lent array and of both stores
+pub report-one : {s l d out a b a′ b′ out₁ out₂ : List ℕ} {r q : ℕ} → Reports s l d out a a′ out₁ r → Reports s l d out b b′ out₂ q
+    → (r ≡ q) × (out₁ ≡ out₂) × (a ≡ b) × (a′ ≡ b′)
+report-one x y = (
+  x .bytes .end ∙ sym (y .bytes .end),
+  x .bytes .bytes ∙ sym (y .bytes .bytes),
+  x .store ∙ sym (y .store),
+  x .depths ∙ sym (y .depths),
+)

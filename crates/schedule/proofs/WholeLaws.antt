@@ -1,6 +1,6 @@
 -- The laws of a file's run, whole: both sections from a start, a store that is too short, and what is answered. Assumes nothing.
 use mathlib.Core.Path.{_≡_, refl, sym, ap, ap₂, _∙_, subst}
-use mathlib.Core.Bool.{Bool, true, false}
+use mathlib.Core.Bool.{Bool, true, false, _||_}
 use mathlib.Core.List.{List, [], _∷_}
 use mathlib.Core.Logic.{_≢_}
 use native.Mathlib.Omega.{arith}
@@ -8,26 +8,24 @@ use native.Mathlib.Decide.{ℕ-discrete}
 use Prim.Native.Nat.{ℕ, zero, suc, _+_, _≤_, _<_}
 use lib.Dec.{eqb, ltb}
 use lib.ListN.{length, getD, take}
-use borrow.Author.Tests.{lt-ltb, le-ltb, eqb-false, ne-eqb}
+use borrow.Author.Tests.{le-ltb, ltb-false, eqb-false, ne-eqb}
 use Rattle.rules.specs.Limits.{greatestSize, storeLength}
 use Rattle.rules.specs.Records.{Sized}
-use Rattle.rules.specs.Refusals.{row, short, miscounted, damaged, startRefusal, refusal}
-use Rattle.rules.specs.Answers.{Said, Outcome, outcome, refused, saysRefused}
-use Rattle.rules.specs.Start.{started, begun, opened}
-use Rattle.rules.specs.Step.{stepped}
-use Rattle.rules.specs.Run.{State, stateOf, startState, next, after, answers}
+use Rattle.rules.specs.Refusals.{row, short, miscounted, refusalBy}
+use Rattle.rules.specs.Answers.{Said, saysRefused}
+use Rattle.rules.specs.Depths.{DeepOutcome, outcome, damaged, refusal, startRefusal, unlessRefusedStart, started, stepped}
+use Rattle.rules.specs.DepthRun.{DeepState, stateOf, startState, next, after, answers}
 use Rattle.rules.specs.Parts.{Ready}
 use Rattle.rules.specs.declared.group.Group.{Group}
 use Rattle.rules.specs.declared.step.Step.{Step}
+use Rattle.rules.proofs.BoolLaws.{or-left, or-right}
 use Rattle.rules.proofs.RowLaws.{among-in}
-use Rattle.rules.proofs.StoreLaws.{opened-length}
-use Rattle.rules.proofs.SoundLaws.{sound-step, sized-step, step-length, refusal-keeps, start-begun, start-refused, start-passed, sound-start, sized-start}
-use Rattle.rules.proofs.Safety.Basics.{onward}
+use Rattle.rules.proofs.DeepLaws.{deep-keeps, deep-sound-step, deep-sized-step, deep-step-length, depths-step-length, Starting, deep-starting}
 use Rattle.schedule.specs.Limits.{mostSteps}
 use Rattle.schedule.specs.Counts.{none, counted, countedAll, refusedAll}
 use Rattle.schedule.specs.Schedule.{Schedule, Reading, faulty, sound, readFile, Fits, noFault}
 use Rattle.schedule.specs.Run.{countsOf, hasRun, notRun, runBy, runOf, begins, between}
-use Rattle.schedule.specs.Run.{Outcome as RunOutcome, outcome as ranTo}
+use Rattle.schedule.specs.Run.{outcome as ranTo}
 use Rattle.schedule.specs.Parts.{StepsAt, FormGood, FormCase, FormIs, RunReady, stateWith, RanSteps, RanTo, BothReady, RanBoth, BothRan, SoundRan}
 use Rattle.schedule.specs.declared.counts.Counts.{Counts}
 use Rattle.schedule.specs.declared.file.Fault.{Fault}
@@ -36,40 +34,43 @@ use Rattle.schedule.specs.declared.file.Places.{Places}
 use Rattle.schedule.specs.declared.run.Ran.{Ran}
 use Rattle.schedule.proofs.FileLaws.{file-read}
 
--- ---- a sound group over a long store stays so
+-- ---- a sound group over long stores stays so
 
-pub record Steady (a : State) : Type 0 where
+pub record Steady (a : DeepState) : Type 0 where
   pub sized : Sized (a .group)
-  pub ready : Ready (a .group) (a .store)
+  pub ready : Ready (a .group) (a .store) (a .depths)
 
-steady-next : (a : State) (s : Step) → Steady a → Steady (next a s)
+steady-next : (a : DeepState) (s : Step) → Steady a → Steady (next a s)
 unfolding next
 steady-next a s h =
     record {
-      sized = sized-step (a .group) (a .store) s (h .sized);
+      sized = deep-sized-step (a .group) (a .store) (a .depths) s (h .sized);
       ready = record {
-        long = omega (arith, step-length (a .group) (a .store) s, h .ready .long);
-        sound = sound-step (a .group) (a .store) s (h .sized) (h .ready .sound);
+        long = omega (arith, deep-step-length (a .group) (a .store) (a .depths) s, h .ready .long);
+        deep-long = omega (arith, depths-step-length (a .group) (a .store) (a .depths) s, h .ready .deep-long);
+        sound = deep-sound-step (a .group) (a .store) (a .depths) s (h .sized) (h .ready .sound);
       };
     }
 
-pub steady-after : (a : State) (ss : List Step) → Steady a → Steady (after a ss)
-steady-after a ss h = onward Steady steady-next a ss h
+pub steady-after : (a : DeepState) (ss : List Step) → Steady a → Steady (after a ss)
+unfolding after
+steady-after a [] h = h
+steady-after a (s ∷ ss) h = steady-after (next a s) ss (steady-next a s h)
 
 -- ---- both sections
 
-module _ (s : List ℕ) (p : Places) (g : Group) (l : List ℕ) (h : BothReady s p g l) where
-  pub both-first : RunReady s (p .start) (p .warmup) g l
+module _ (s : List ℕ) (p : Places) (g : Group) (l d : List ℕ) (h : BothReady s p g l d) where
+  pub both-first : RunReady s (p .start) (p .warmup) g l d
   both-first = record { ready = h .ready; sized = h .sized; steps = h .warmup; end = h .warmup-end; are = h .warmup-are; few = omega (arith, h .few) }
 
-  module _ (g₁ : Group) (l₁ : List ℕ) (c : Counts) (r : RanTo s (p .start) (p .warmup) g l g₁ l₁ c) where
-    first-ran : RanSteps (h .warmup) g l g₁ l₁ c
+  module _ (g₁ : Group) (l₁ d₁ : List ℕ) (c : Counts) (r : RanTo s (p .start) (p .warmup) g l d g₁ l₁ d₁ c) where
+    first-ran : RanSteps (h .warmup) g l d g₁ l₁ d₁ c
     first-ran = r (h .warmup) (h .warmup-end) (h .warmup-are)
 
-    then-steady : Steady (stateWith g₁ l₁)
-    then-steady = subst Steady (sym (first-ran .state)) (steady-after (stateWith g l) (h .warmup) (record { sized = h .sized; ready = h .ready }))
+    then-steady : Steady (stateWith g₁ l₁ d₁)
+    then-steady = subst Steady (sym (first-ran .state)) (steady-after (stateWith g l d) (h .warmup) (record { sized = h .sized; ready = h .ready }))
 
-    pub both-second : RunReady s (p .middle) (p .measured) g₁ l₁
+    pub both-second : RunReady s (p .middle) (p .measured) g₁ l₁ d₁
     both-second =
         record {
           ready = then-steady .ready;
@@ -80,26 +81,24 @@ module _ (s : List ℕ) (p : Places) (g : Group) (l : List ℕ) (h : BothReady s
           few = omega (arith, h .few);
         }
 
-    pub both-ran : (g₂ : Group) (l₂ : List ℕ) (d : Counts) (f : Fault) → f ≡ noFault → RanTo s (p .middle) (p .measured) g₁ l₁ g₂ l₂ d
-        → BothRan s p g l (record { fault = f; warmup = c; measured = d; group = g₂ }) l₂
-    both-ran g₂ l₂ d f e q ws ms a b u v =
+    pub both-ran : (g₂ : Group) (l₂ d₂ : List ℕ) (k : Counts) (f : Fault) → f ≡ noFault → RanTo s (p .middle) (p .measured) g₁ l₁ d₁ g₂ l₂ d₂ k
+        → BothRan s p g l d (record { fault = f; warmup = c; measured = k; group = g₂ }) l₂ d₂
+    both-ran g₂ l₂ d₂ k f e q ws ms a b u v =
         let x = r ws a u in let y = q ms b v in
         record {
           fault = e;
           warmup = x .counts;
-          measured = y .counts ∙ ap (λ (t : State). countsOf t ms) (x .state);
-          state = y .state ∙ ap (λ (t : State). after t ms) (x .state);
+          measured = y .counts ∙ ap (λ (t : DeepState). countsOf t ms) (x .state);
+          state = y .state ∙ ap (λ (t : DeepState). after t ms) (x .state);
         }
 
--- ---- a store that is too short
+-- ---- a store that is too short: the same number refuses every step
 
-module _ (a : State) (h : length (a .store) < storeLength) where
-  eleven : (s : Step) → refusal (a .group) (a .store) s ≡ 11
-  unfolding refusal row short
-  eleven s = rw (lt-ltb (length (a .store)) storeLength h)
-
-  refuses : (s : Step) → stepped (a .group) (a .store) s ≡ refused (a .group) (a .store) 11
-  refuses s = refusal-keeps (a .group) (a .store) s (λ z. let y : _≡_ {A = ℕ} 11 0 = sym (eleven s) ∙ z in omega arith) ∙ ap (refused (a .group) (a .store)) (eleven s)
+module _ (a : DeepState) (m : ℕ) (h : (s : Step) → refusal (a .group) (a .store) (a .depths) s ≡ suc m) where
+  refuses : (s : Step) → stepped (a .group) (a .store) (a .depths) s ≡ outcome (a .group) (a .store) (a .depths) (saysRefused (suc m))
+  refuses s =
+      deep-keeps (a .group) (a .store) (a .depths) s (λ z. let y : suc m ≡ 0 = sym (h s) ∙ z in omega arith)
+      ∙ ap (λ (k : ℕ). outcome (a .group) (a .store) (a .depths) (saysRefused k)) (h s)
 
   stays : (s : Step) → next a s ≡ a
   unfolding next
@@ -108,53 +107,65 @@ module _ (a : State) (h : length (a .store) < storeLength) where
   pub short-state : (ss : List Step) → after a ss ≡ a
   unfolding after
   short-state [] = refl
-  short-state (s ∷ ss) = ap (λ (b : State). after b ss) (stays s) ∙ short-state ss
+  short-state (s ∷ ss) = ap (λ (b : DeepState). after b ss) (stays s) ∙ short-state ss
 
-  one-more : (k m : ℕ) → counted (refusedAll k) (saysRefused m) ≡ refusedAll (k + 1)
+  one-more : (k : ℕ) → counted (refusedAll k) (saysRefused (suc m)) ≡ refusedAll (k + 1)
   unfolding counted refusedAll
-  one-more k m = refl
+  one-more k = refl
 
   short-from : (k : ℕ) (ss : List Step) → countedAll (refusedAll k) (answers a ss) ≡ refusedAll (k + length ss)
   unfolding answers countedAll
   short-from k [] = ap refusedAll (omega arith)
   short-from k (s ∷ ss) =
-      ap₂ (λ (x : Said) (b : State). countedAll (counted (refusedAll k) x) (answers b ss)) (ap (λ (o : Outcome). o .says) (refuses s)) (stays s)
-      ∙ ap (λ (d : Counts). countedAll d (answers a ss)) (one-more k 11) ∙ short-from (k + 1) ss ∙ ap refusedAll (omega arith)
+      ap₂ (λ (x : Said) (b : DeepState). countedAll (counted (refusedAll k) x) (answers b ss)) (ap (λ (o : DeepOutcome). o .says) (refuses s)) (stays s)
+      ∙ ap (λ (d : Counts). countedAll d (answers a ss)) (one-more k) ∙ short-from (k + 1) ss ∙ ap refusedAll (omega arith)
 
   pub short-counts : (ss : List Step) → countsOf a ss ≡ refusedAll (length ss)
   unfolding countsOf none refusedAll
   short-counts ss = short-from 0 ss ∙ ap refusedAll (omega arith)
 
+-- 11 where the store is, else 14 where the depths are
+short-number : (a : DeepState) → (ltb (length (a .store)) storeLength || ltb (length (a .depths)) storeLength) ≡ true
+    → (m : ℕ) × ((s : Step) → refusal (a .group) (a .store) (a .depths) s ≡ suc m)
+unfolding refusal refusalBy row short
+short-number a = go (ltb (length (a .store)) storeLength) (ltb (length (a .depths)) storeLength) refl refl
+  where
+    go : (x y : Bool) → ltb (length (a .store)) storeLength ≡ x → ltb (length (a .depths)) storeLength ≡ y → (x || y) ≡ true
+        → (m : ℕ) × ((s : Step) → refusal (a .group) (a .store) (a .depths) s ≡ suc m)
+    go true y e f z = (10, λ s. rw e)
+    go false true e f z = (13, λ s. rw (e, f))
+    go false false e f z = let y : _≡_ {A = ℕ} 0 1 = cc in absurd (omega arith)
+
+-- neither is
+not-short : (m n : ℕ) → (ltb m storeLength || ltb n storeLength) ≡ false → (storeLength ≤ m) × (storeLength ≤ n)
+not-short m n e =
+    (ltb-false m storeLength (or-left (ltb m storeLength) (ltb n storeLength) e), ltb-false n storeLength (or-right (ltb m storeLength) (ltb n storeLength) e))
+
 -- ---- the start
 
-begun-length : (vs l : List ℕ) → storeLength ≤ length l → length (begun vs l .store) ≡ length l
-unfolding begun
-begun-length vs l h = opened-length (getD vs 0 0) l h
-
-started-length : (vs l : List ℕ) → length (started vs l .store) ≡ length l
-started-length vs l = go (ℕ-discrete (startRefusal vs l) 0)
-  where
-    go : Dec (startRefusal vs l ≡ 0) → length (started vs l .store) ≡ length l
-    go (yes z) = ap (λ (o : Outcome). length (o .store)) (start-begun vs l z) ∙ begun-length vs l (start-passed vs l z .0)
-    go (no ne) = ap (λ (o : Outcome). length (o .store)) (start-refused vs l ne)
-
-module _ (vs l : List ℕ) (some : 1 ≤ length vs) (few : length vs ≤ greatestSize) (g : Group) (l₁ : List ℕ) (x : Said) (e : outcome g l₁ x ≡ started vs l) where
-  begin-is : startState vs l ≡ stateWith g l₁
+module _ (vs l d : List ℕ) (some : 1 ≤ length vs) (few : length vs ≤ greatestSize) (g : Group) (l₁ d₁ : List ℕ) (x : Said) (e : outcome g l₁ d₁ x ≡ started vs l d) where
+  begin-is : startState vs l d ≡ stateWith g l₁ d₁
   unfolding startState
   begin-is = ap stateOf (sym e)
 
-  same-long : length l₁ ≡ length l
-  same-long = ap (λ (o : Outcome). length (o .store)) e ∙ started-length vs l
+  starts : Starting vs l d (startRefusal vs l d)
+  starts = deep-starting vs l d
 
-  passes : storeLength ≤ length l₁ → startRefusal vs l ≡ 0
+  same-long : (length l₁ ≡ length l) × (length d₁ ≡ length d)
+  unfolding started
+  same-long = (ap (λ (o : DeepOutcome). length (o .store)) e ∙ starts .store, ap (λ (o : DeepOutcome). length (o .depths)) e ∙ starts .depths)
+
+  passes : storeLength ≤ length l₁ → storeLength ≤ length d₁ → startRefusal vs l d ≡ 0
   unfolding startRefusal row short miscounted
-  passes h = rw (le-ltb (length l) storeLength (omega (arith, same-long)), among-in greatestSize (length vs) some few)
+  passes h k =
+      rw (le-ltb (length l) storeLength (omega (arith, same-long)), le-ltb (length d) storeLength (omega (arith, same-long)), among-in greatestSize (length vs) some few)
 
-  pub begin-steady : storeLength ≤ length l₁ → Steady (stateWith g l₁)
-  begin-steady h =
+  pub begin-steady : storeLength ≤ length l₁ → storeLength ≤ length d₁ → Steady (stateWith g l₁ d₁)
+  unfolding started
+  begin-steady h k =
       record {
-        sized = subst Sized (ap (λ (o : Outcome). o .group) (sym e)) (sized-start vs l);
-        ready = record { long = h; sound = ap damaged (ap (λ (o : Outcome). o .group) e) ∙ sound-start vs l (passes h) };
+        sized = subst Sized (ap (λ (o : DeepOutcome). o .group) (sym e)) (starts .sized);
+        ready = record { long = h; deep-long = k; sound = ap damaged (ap (λ (o : DeepOutcome). o .group) e) ∙ starts .sound (passes h k) };
       }
 
 -- ---- a sound file
@@ -166,19 +177,20 @@ isSchedule (sound h) z = h
 same-schedule : {h k : Schedule} → sound h ≡ sound k → h ≡ k
 same-schedule {h} {k} e = ap (λ (r : Reading). isSchedule r h) e
 
-module _ (s : List ℕ) (n : ℕ) (vs : List ℕ) (p : Places) (h : FormGood s n vs p) (l : List ℕ) (g : Group) (l₁ : List ℕ) (x : Said) (e : outcome g l₁ x ≡ started (take n vs) l) where
+module _ (s : List ℕ) (n : ℕ) (vs : List ℕ) (p : Places) (h : FormGood s n vs p) (l d : List ℕ) (g : Group) (l₁ d₁ : List ℕ) (x : Said) (e : outcome g l₁ d₁ x ≡ started (take n vs) l d) where
   abbrev schedule : Schedule
   schedule = record { values = take n vs; warmup = h .warmup; measured = h .measured }
 
   fits : Fits schedule
   fits = file-read s schedule (h .is) .1
 
-  begun-is : begins schedule l ≡ stateWith g l₁
-  begun-is = begin-is (take n vs) l (fits .some) (fits .few) g l₁ x e
+  begun-is : begins schedule l d ≡ stateWith g l₁ d₁
+  begun-is = begin-is (take n vs) l d (fits .some) (fits .few) g l₁ d₁ x e
 
-  pub sound-ready : storeLength ≤ length l₁ → BothReady s p g l₁
+  pub sound-ready : (ltb (length l₁) storeLength || ltb (length d₁) storeLength) ≡ false → BothReady s p g l₁ d₁
   sound-ready k =
-      let t = begin-steady (take n vs) l (fits .some) (fits .few) g l₁ x e k in
+      let long = not-short (length l₁) (length d₁) k in
+      let t = begin-steady (take n vs) l d (fits .some) (fits .few) g l₁ d₁ x e (long .0) (long .1) in
       record {
         ready = t .ready;
         sized = t .sized;
@@ -191,34 +203,37 @@ module _ (s : List ℕ) (n : ℕ) (vs : List ℕ) (p : Places) (h : FormGood s n
         few = h .few;
       }
 
-  module _ (r : Ran) (l′ : List ℕ) where
-    has-run : RanBoth (h .warmup) (h .measured) g l₁ r l′ → ranTo r l′ ≡ runBy (sound schedule) l
+  module _ (r : Ran) (l′ d′ : List ℕ) where
+    has-run : RanBoth (h .warmup) (h .measured) g l₁ d₁ r l′ d′ → ranTo r l′ d′ ≡ runBy (sound schedule) l d
     unfolding runBy hasRun
     has-run b =
-        let from : stateWith g l₁ ≡ begins schedule l = sym begun-is in
-        let end : stateWith (r .group) l′ ≡ after (between schedule l) (h .measured) = b .state ∙ ap (λ (t : State). after (after t (h .warmup)) (h .measured)) from in
-        let one : r .warmup ≡ countsOf (begins schedule l) (h .warmup) = b .warmup ∙ ap (λ (t : State). countsOf t (h .warmup)) from in
-        let two : r .measured ≡ countsOf (between schedule l) (h .measured) = b .measured ∙ ap (λ (t : State). countsOf (after t (h .warmup)) (h .measured)) from in
-        λ k. ranTo (record { fault = b .fault k; warmup = one k; measured = two k; group = end k .group }) (end k .store)
+        let from : stateWith g l₁ d₁ ≡ begins schedule l d = sym begun-is in
+        let end : stateWith (r .group) l′ d′ ≡ after (between schedule l d) (h .measured) = b .state ∙ ap (λ (t : DeepState). after (after t (h .warmup)) (h .measured)) from in
+        let one : r .warmup ≡ countsOf (begins schedule l d) (h .warmup) = b .warmup ∙ ap (λ (t : DeepState). countsOf t (h .warmup)) from in
+        let two : r .measured ≡ countsOf (between schedule l d) (h .measured) = b .measured ∙ ap (λ (t : DeepState). countsOf (after t (h .warmup)) (h .measured)) from in
+        λ k. ranTo (record { fault = b .fault k; warmup = one k; measured = two k; group = end k .group }) (end k .store) (end k .depths)
 
-    any-schedule : ranTo r l′ ≡ runBy (sound schedule) l → SoundRan s l r l′
-    any-schedule b k q = b ∙ ap (λ (t : Schedule). runBy (sound t) l) (same-schedule (sym (h .is) ∙ q))
+    any-schedule : ranTo r l′ d′ ≡ runBy (sound schedule) l d → SoundRan s l d r l′ d′
+    any-schedule b k q = b ∙ ap (λ (t : Schedule). runBy (sound t) l d) (same-schedule (sym (h .is) ∙ q))
 
-    pub sound-both : BothRan s p g l₁ r l′ → SoundRan s l r l′
+    pub sound-both : BothRan s p g l₁ d₁ r l′ d′ → SoundRan s l d r l′ d′
     sound-both b = any-schedule (has-run (b (h .warmup) (h .measured) (h .warmup-end) (h .measured-end) (h .warmup-are) (h .measured-are)))
 
-  pub sound-short : length l₁ < storeLength → (f : Fault) (w m : Counts) → f ≡ noFault → w ≡ refusedAll (p .warmup) → m ≡ refusedAll (p .measured)
-      → SoundRan s l (record { fault = f; warmup = w; measured = m; group = g }) l₁
+  pub sound-short : (ltb (length l₁) storeLength || ltb (length d₁) storeLength) ≡ true → (f : Fault) (w m : Counts) → f ≡ noFault
+      → w ≡ refusedAll (p .warmup) → m ≡ refusedAll (p .measured)
+      → SoundRan s l d (record { fault = f; warmup = w; measured = m; group = g }) l₁ d₁
   sound-short k f w m ef ew em =
-      let still : after (stateWith g l₁) (h .warmup) ≡ stateWith g l₁ = short-state (stateWith g l₁) k (h .warmup) in
-      any-schedule (record { fault = f; warmup = w; measured = m; group = g }) l₁
-      (has-run (record { fault = f; warmup = w; measured = m; group = g }) l₁
+      let a = stateWith g l₁ d₁ in
+      let z = short-number a k in
+      let still : after a (h .warmup) ≡ a = short-state a (z .0) (z .1) (h .warmup) in
+      any-schedule (record { fault = f; warmup = w; measured = m; group = g }) l₁ d₁
+      (has-run (record { fault = f; warmup = w; measured = m; group = g }) l₁ d₁
       (record {
         fault = ef;
-        warmup = ew ∙ ap refusedAll (sym (h .warmup-are .long)) ∙ sym (short-counts (stateWith g l₁) k (h .warmup));
-        measured = em ∙ ap refusedAll (sym (h .measured-are .long)) ∙ sym (short-counts (stateWith g l₁) k (h .measured))
-            ∙ ap (λ (t : State). countsOf t (h .measured)) (sym still);
-        state = sym (ap (λ (t : State). after t (h .measured)) still ∙ short-state (stateWith g l₁) k (h .measured));
+        warmup = ew ∙ ap refusedAll (sym (h .warmup-are .long)) ∙ sym (short-counts a (z .0) (z .1) (h .warmup));
+        measured = em ∙ ap refusedAll (sym (h .measured-are .long)) ∙ sym (short-counts a (z .0) (z .1) (h .measured))
+            ∙ ap (λ (t : DeepState). countsOf t (h .measured)) (sym still);
+        state = sym (ap (λ (t : DeepState). after t (h .measured)) still ∙ short-state a (z .0) (z .1) (h .measured));
       }))
 
 -- ---- any file
@@ -229,11 +244,11 @@ module _ (s : List ℕ) (r : Form) (h : FormIs s r) where
   form-bad true e z c = let y : _≡_ {A = ℕ} 0 1 = cc in absurd (omega arith)
   form-bad false e z c = c
 
-  pub run-bad : r .fault .number ≢ 0 → (q : Ran) (l : List ℕ) → q ≡ notRun (r .fault) → ranTo q l ≡ runOf s l
+  pub run-bad : r .fault .number ≢ 0 → (q : Ran) (l d : List ℕ) → q ≡ notRun (r .fault) → ranTo q l d ≡ runOf s l d
   unfolding runOf runBy FormIs
-  run-bad ne q l e =
+  run-bad ne q l d e =
       let w : readFile s ≡ faulty (r .fault) = form-bad (eqb (r .fault .number) 0) refl (ne-eqb (r .fault .number) 0 ne) h in
-      ap (λ (t : Ran). ranTo t l) e ∙ ap (λ (t : Reading). runBy t l) (sym w)
+      ap (λ (t : Ran). ranTo t l d) e ∙ ap (λ (t : Reading). runBy t l d) (sym w)
 
   form-good : (b : Bool) → eqb (r .fault .number) 0 ≡ b → r .fault .number ≡ 0 → FormCase b s r → FormGood s (r .n) (r .values) (r .places)
   unfolding FormCase
@@ -244,8 +259,8 @@ module _ (s : List ℕ) (r : Form) (h : FormIs s r) where
   unfolding FormIs
   run-form z = form-good (eqb (r .fault .number) 0) refl z h
 
-  pub run-good : r .fault .number ≡ 0 → (q : Ran) (l l′ : List ℕ) → SoundRan s l q l′ → ranTo q l′ ≡ runOf s l
+  pub run-good : r .fault .number ≡ 0 → (q : Ran) (l d l′ d′ : List ℕ) → SoundRan s l d q l′ d′ → ranTo q l′ d′ ≡ runOf s l d
   unfolding runOf
-  run-good z q l l′ b =
+  run-good z q l d l′ d′ b =
       let w = run-form z in
-      b (record { values = take (r .n) (r .values); warmup = w .warmup; measured = w .measured }) (w .is) ∙ ap (λ (t : Reading). runBy t l) (sym (w .is))
+      b (record { values = take (r .n) (r .values); warmup = w .warmup; measured = w .measured }) (w .is) ∙ ap (λ (t : Reading). runBy t l d) (sym (w .is))

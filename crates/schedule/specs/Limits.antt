@@ -11,7 +11,7 @@ mostSteps = 4096
 
 -- no process line is longer, behind its number and whole, with ten digits to a number
 abbrev pub longestRecord : ℕ
-longestRecord = 72
+longestRecord = 83
 
 abbrev pub longestLine : ℕ
 longestLine = 10 + longestRecord

@@ -8,7 +8,7 @@ use lib.Dec.{eqb}
 use lib.ListN.{length, getD, take}
 use Rattle.rules.specs.Limits.{greatestSize}
 use Rattle.rules.specs.Records.{Sized}
-use Rattle.rules.specs.Run.{State, after}
+use Rattle.rules.specs.DepthRun.{DeepState, after}
 use Rattle.rules.specs.Parts.{Ready}
 use Rattle.rules.specs.declared.group.Group.{Group}
 use Rattle.rules.specs.declared.step.Step.{Step}
@@ -171,9 +171,9 @@ pub record Room (c : Counts) : Type 0 where
   pub sent : c .sent ≤ mostSteps * 256
   pub decided : c .decided ≤ mostSteps
 
--- a group that is sound over a store that is long, and some steps to take
-pub record RunReady (s : List ℕ) (at count : ℕ) (g : Group) (l : List ℕ) : Type 0 where
-  pub ready : Ready g l
+-- a group that is sound over stores that are long, and some steps to take
+pub record RunReady (s : List ℕ) (at count : ℕ) (g : Group) (l d : List ℕ) : Type 0 where
+  pub ready : Ready g l d
   pub sized : Sized g
   pub steps : List Step
   pub end : ℕ
@@ -181,19 +181,19 @@ pub record RunReady (s : List ℕ) (at count : ℕ) (g : Group) (l : List ℕ) :
   pub few : count ≤ mostSteps
 
 -- whatever steps stand there were taken
-abbrev pub stateWith : Group → List ℕ → State
-stateWith g l = record { group = g; store = l }
+abbrev pub stateWith : Group → List ℕ → List ℕ → DeepState
+stateWith g l d = record { group = g; store = l; depths = d }
 
-pub record RanSteps (ss : List Step) (g : Group) (l : List ℕ) (g′ : Group) (l′ : List ℕ) (c : Counts) : Type 0 where
-  pub state : stateWith g′ l′ ≡ after (stateWith g l) ss
-  pub counts : c ≡ countsOf (stateWith g l) ss
+pub record RanSteps (ss : List Step) (g : Group) (l d : List ℕ) (g′ : Group) (l′ d′ : List ℕ) (c : Counts) : Type 0 where
+  pub state : stateWith g′ l′ d′ ≡ after (stateWith g l d) ss
+  pub counts : c ≡ countsOf (stateWith g l d) ss
 
-abbrev pub RanTo : List ℕ → ℕ → ℕ → Group → List ℕ → Group → List ℕ → Counts → Type 0
-RanTo s at count g l g′ l′ c = (ss : List Step) (m : ℕ) → StepsAt s count at m ss → RanSteps ss g l g′ l′ c
+abbrev pub RanTo : List ℕ → ℕ → ℕ → Group → List ℕ → List ℕ → Group → List ℕ → List ℕ → Counts → Type 0
+RanTo s at count g l d g′ l′ d′ c = (ss : List Step) (m : ℕ) → StepsAt s count at m ss → RanSteps ss g l d g′ l′ d′ c
 
 -- both sections
-pub record BothReady (s : List ℕ) (p : Places) (g : Group) (l : List ℕ) : Type 0 where
-  pub ready : Ready g l
+pub record BothReady (s : List ℕ) (p : Places) (g : Group) (l d : List ℕ) : Type 0 where
+  pub ready : Ready g l d
   pub sized : Sized g
   pub warmup : List Step
   pub measured : List Step
@@ -203,15 +203,15 @@ pub record BothReady (s : List ℕ) (p : Places) (g : Group) (l : List ℕ) : Ty
   pub measured-are : StepsAt s (p .measured) (p .middle) measured-end measured
   pub few : p .warmup + p .measured ≤ mostSteps
 
-pub record RanBoth (ws ms : List Step) (g : Group) (l : List ℕ) (r : Ran) (l′ : List ℕ) : Type 0 where
+pub record RanBoth (ws ms : List Step) (g : Group) (l d : List ℕ) (r : Ran) (l′ d′ : List ℕ) : Type 0 where
   pub fault : r .fault ≡ noFault
-  pub warmup : r .warmup ≡ countsOf (stateWith g l) ws
-  pub measured : r .measured ≡ countsOf (after (stateWith g l) ws) ms
-  pub state : stateWith (r .group) l′ ≡ after (after (stateWith g l) ws) ms
+  pub warmup : r .warmup ≡ countsOf (stateWith g l d) ws
+  pub measured : r .measured ≡ countsOf (after (stateWith g l d) ws) ms
+  pub state : stateWith (r .group) l′ d′ ≡ after (after (stateWith g l d) ws) ms
 
-abbrev pub BothRan : List ℕ → Places → Group → List ℕ → Ran → List ℕ → Type 0
-BothRan s p g l r l′ = (ws ms : List Step) (a b : ℕ) → StepsAt s (p .warmup) (p .start) a ws → StepsAt s (p .measured) (p .middle) b ms → RanBoth ws ms g l r l′
+abbrev pub BothRan : List ℕ → Places → Group → List ℕ → List ℕ → Ran → List ℕ → List ℕ → Type 0
+BothRan s p g l d r l′ d′ = (ws ms : List Step) (a b : ℕ) → StepsAt s (p .warmup) (p .start) a ws → StepsAt s (p .measured) (p .middle) b ms → RanBoth ws ms g l d r l′ d′
 
 -- a sound file's run
-abbrev pub SoundRan : List ℕ → List ℕ → Ran → List ℕ → Type 0
-SoundRan s l r l′ = (h : Schedule) → readFile s ≡ sound h → outcome r l′ ≡ runBy (sound h) l
+abbrev pub SoundRan : List ℕ → List ℕ → List ℕ → Ran → List ℕ → List ℕ → Type 0
+SoundRan s l d r l′ d′ = (h : Schedule) → readFile s ≡ sound h → outcome r l′ d′ ≡ runBy (sound h) l d

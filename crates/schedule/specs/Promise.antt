@@ -6,10 +6,11 @@ use Prim.Native.Nat.{ℕ, _+_, _≤_}
 use lib.ListN.{length}
 use Rattle.rules.specs.Limits.{storeLength}
 use Rattle.rules.specs.Tally.{count}
-use Rattle.rules.specs.Records.{processAt}
+use Rattle.rules.specs.Records.{processAt, depthAt}
 use Rattle.rules.specs.Store.{sentIn}
 use Rattle.rules.specs.Run.{startState}
 use Rattle.rules.specs.Safety.{Of, FirstValue, recoversOf}
+use Rattle.rules.specs.DepthRun.{Longest}
 use Rattle.rules.specs.declared.group.Group.{Group}
 use Rattle.schedule.specs.Schedule.{Schedule, readFile, sound}
 use Rattle.schedule.specs.Run.{Outcome, runOf}
@@ -28,7 +29,7 @@ pub record Decided (g : Group) (i v : ℕ) : Type 0 where
   pub decided : processAt g i .decided ≡ true
   pub decision : processAt g i .decision ≡ v
 
--- of the schedule h and of all that its run over a store l of at least 3,088 entries yields
+-- of the schedule h and of all that its run over stores of at least 3,088 numbers, the first of which is l, yields
 pub record Promise (h : Schedule) (l : List ℕ) (o : Outcome) : Type 0 where
   -- both sections have as many steps as were read
   pub warmup : o .ran .warmup .steps ≡ length (h .warmup)
@@ -44,7 +45,9 @@ pub record Promise (h : Schedule) (l : List ℕ) (o : Outcome) : Type 0 where
   pub validity : (i v : ℕ) → Of (h .values) i → Decided (o .ran .group) i v → FirstValue (h .values) v
   -- the number of recoveries of each process counts the applied recovers of both sections
   pub recoveries : (i : ℕ) → Of (h .values) i → processAt (o .ran .group) i .recoveries ≡ recoversOf i (startState (h .values) l) (h .warmup ++ h .measured)
+  -- the depth of each process, which the last field of its line shows where it has decided, is the length of the longest chain of deliveries that ends at it
+  pub depths : (i : ℕ) → Of (h .values) i → Longest (h .values) l (h .warmup ++ h .measured) i (depthAt (o .ran .group) i)
 
 -- the promise of the program: every file that is read as a schedule keeps it
 abbrev pub Promised : Type 0
-Promised = (s l : List ℕ) (h : Schedule) → readFile s ≡ sound h → storeLength ≤ length l → Promise h l (runOf s l)
+Promised = (s l d : List ℕ) (h : Schedule) → readFile s ≡ sound h → storeLength ≤ length l → storeLength ≤ length d → Promise h l (runOf s l d)

@@ -4,7 +4,7 @@ use mathlib.Core.Bool.{Bool, true, false}
 use mathlib.Core.List.{List, [], _∷_, _++_}
 use Prim.Native.Nat.{ℕ, zero, suc, _+_}
 use lib.Dec.{eqb}
-use Rattle.rules.specs.Records.{recordOf}
+use Rattle.rules.specs.Records.{recordOf, depthOf}
 use Rattle.rules.specs.declared.group.Group.{Group}
 use Rattle.rules.specs.declared.process.Process.{Process}
 use Rattle.schedule.specs.Number.{pick, spelled}
@@ -79,7 +79,8 @@ sectionLine w c = w ++ (field space (c .steps) ++ (takenText c ++ sentEnd c))
 unfoldable pub processesLine : ℕ → List ℕ
 processesLine n = field processesText n ++ lf
 
--- "Process lines: number, up or down, round, phase, proposer, estimate value, decision or `-`." Request 2026-03: "The process lines of the report end with" the recoveries.
+-- "Process lines: number, up or down, round, phase, proposer, estimate value, decision or `-`." Request 2026-03: the recoveries
+-- behind it. Request 2026-06: "Process lines gain a last field (after the recoveries): the decision's depth, or `-`".
 unfoldable pub statusText : Bool → List ℕ
 statusText up = pick up upText downText
 
@@ -92,14 +93,18 @@ estimateText p = field space (p .proposer) ++ field space (p .value)
 unfoldable pub decisionText : Process → List ℕ
 decisionText p = pick (p .decided) (field space (p .decision)) noneText
 
-unfoldable pub recoveriesEnd : Process → List ℕ
-recoveriesEnd p = field space (p .recoveries) ++ lf
+unfoldable pub depthEnd : Bool → ℕ → List ℕ
+depthEnd decided k = pick decided (field space k ++ lf) (noneText ++ lf)
 
-unfoldable pub recordText : Process → List ℕ
-recordText p = placeText p ++ (estimateText p ++ (decisionText p ++ recoveriesEnd p))
+unfoldable pub recoveriesEnd : Process → ℕ → List ℕ
+recoveriesEnd p k = field space (p .recoveries) ++ depthEnd (p .decided) k
+
+-- the record p of a process and its depth k
+unfoldable pub recordText : Process → ℕ → List ℕ
+recordText p k = placeText p ++ (estimateText p ++ (decisionText p ++ recoveriesEnd p k))
 
 unfoldable pub lineOfProcess : Group → ℕ → List ℕ
-lineOfProcess g i = spelled i ++ recordText (recordOf g i)
+lineOfProcess g i = spelled i ++ recordText (recordOf g i) (depthOf g i)
 
 -- the lines of processes 1 to k
 unfoldable pub processLines : Group → ℕ → List ℕ
@@ -114,7 +119,8 @@ doneText r =
 unfoldable pub reportOf : Ran → List ℕ
 reportOf r = pick (eqb (r .fault .number) 0) (doneText r) (faultLine (r .fault))
 
--- the contract of the report: its bytes stand at the start of the lent array, what lies past them is as it was, and the store is as the run leaves it
-pub record Reports (s l out l′ out′ : List ℕ) (r : ℕ) : Type 0 where
-  pub bytes : Wrote out 0 (reportOf (runOf s l .ran)) out′ r
-  pub store : l′ ≡ runOf s l .store
+-- the contract of the report: its bytes stand at the start of the lent array, what lies past them is as it was, and both stores are as the run leaves them
+pub record Reports (s l d out l′ d′ out′ : List ℕ) (r : ℕ) : Type 0 where
+  pub bytes : Wrote out 0 (reportOf (runOf s l d .ran)) out′ r
+  pub store : l′ ≡ runOf s l d .store
+  pub depths : d′ ≡ runOf s l d .depths

@@ -21,8 +21,8 @@ use rules::process::Process;
 pub struct Report {}
 
 impl Report {
-    // No report is longer: with ten digits to a number a section's line has at most 109 bytes, the line of PROCESSES 21, and each of 16 process lines 82.
-    pub const LONGEST: usize = 1551;
+    // No report is longer: with ten digits to a number a section's line has at most 109 bytes, the line of PROCESSES 21, and each of 16 process lines 93.
+    pub const LONGEST: usize = 1727;
 
     // The constant is the definitions' limit.
     pub(crate) fn longest() -> usize
@@ -122,22 +122,33 @@ pub(crate) fn put_decision(out: &mut [u8], at: usize, p: Process) -> usize
     put_bytes(out, at, b" -")
 }
 
-pub(crate) fn put_recoveries(out: &mut [u8], at: usize, p: Process) -> usize
+pub(crate) fn put_depth(out: &mut [u8], at: usize, decided: bool, depth: u16) -> usize
     requires { ⌜ at + 12 ≤ length (now out) ⌝ }
-    ensures { λ r. ⌜ Wrote (now (out .entry)) at (reports.recoveriesEnd p) (now (out .exit)) r ⌝ }
+    ensures { λ r. ⌜ Wrote (now (out .entry)) at (reports.depthEnd decided depth) (now (out .exit)) r ⌝ }
 {
-    let a = put_field(out, at, b" ", p.recoveries as u32);
-    put_bytes(out, a, b"\n")
+    if decided {
+        let a = put_field(out, at, b" ", depth as u32);
+        return put_bytes(out, a, b"\n");
+    }
+    put_bytes(out, at, b" -\n")
 }
 
-pub(crate) fn put_record(out: &mut [u8], at: usize, p: Process) -> usize
+pub(crate) fn put_recoveries(out: &mut [u8], at: usize, p: Process, depth: u16) -> usize
+    requires { ⌜ at + 23 ≤ length (now out) ⌝ }
+    ensures { λ r. ⌜ Wrote (now (out .entry)) at (reports.recoveriesEnd p depth) (now (out .exit)) r ⌝ }
+{
+    let a = put_field(out, at, b" ", p.recoveries as u32);
+    put_depth(out, a, p.decided, depth)
+}
+
+pub(crate) fn put_record(out: &mut [u8], at: usize, p: Process, depth: u16) -> usize
     requires { ⌜ at + limits.longestRecord ≤ length (now out) ⌝ }
-    ensures { λ r. ⌜ Wrote (now (out .entry)) at (reports.recordText p) (now (out .exit)) r ⌝ }
+    ensures { λ r. ⌜ Wrote (now (out .entry)) at (reports.recordText p depth) (now (out .exit)) r ⌝ }
 {
     let a = put_place(out, at, p);
     let b = put_estimate(out, a, p);
     let c = put_decision(out, b, p);
-    put_recoveries(out, c, p)
+    put_recoveries(out, c, p, depth)
 }
 
 pub(crate) fn put_process(out: &mut [u8], at: usize, group: Group, i: u32) -> usize
@@ -145,7 +156,7 @@ pub(crate) fn put_process(out: &mut [u8], at: usize, group: Group, i: u32) -> us
     ensures { λ r. ⌜ Wrote (now (out .entry)) at (reports.lineOfProcess group i) (now (out .exit)) r ⌝ }
 {
     let a = put_number(out, at, i);
-    put_record(out, a, group.process(i))
+    put_record(out, a, group.process(i), group.depth(i))
 }
 
 pub(crate) fn put_processes(out: &mut [u8], at: usize, group: Group) -> usize
@@ -177,11 +188,17 @@ pub(crate) fn put_done(out: &mut [u8], at: usize, ran: Ran) -> usize
     put_processes(out, c, group)
 }
 
-// Runs a schedule file over a lent store and writes its report at the start of out; answers how long the report is. What lies past it is as it was.
-pub fn write_report(file: &[u8], store: &mut [u64], out: &mut [u8; Report::LONGEST]) -> usize
-    ensures { λ r. ⌜ reports.Reports (now (file .entry)) (now (store .entry)) (now (out .entry)) (now (store .exit)) (now (out .exit)) r ⌝ }
+// Runs a schedule file over a lent store and the lent depths of its messages, and writes its report at the start of out; answers how long the report is.
+// What lies past it is as it was.
+pub fn write_report(
+    file: &[u8],
+    store: &mut [u64],
+    depths: &mut [u16],
+    out: &mut [u8; Report::LONGEST],
+) -> usize
+    ensures { λ r. ⌜ reports.Reports (now (file .entry)) (now (store .entry)) (now (depths .entry)) (now (out .entry)) (now (store .exit)) (now (depths .exit)) (now (out .exit)) r ⌝ }
 {
-    let ran = run(file, store);
+    let ran = run(file, store, depths);
     let fault = ran.fault;
     if fault.number != 0 {
         return put_fault(out, 0, fault);

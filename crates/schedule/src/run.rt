@@ -1,5 +1,8 @@
-// The run of a schedule file over a lent store: the file is checked first, and its steps are taken while it is read again.
+// The run of a schedule file over a lent store and the lent depths of its messages: the file is checked first, and its steps are taken while it is read again.
 ghost use mathlib.Core.Path.{_≡_};
+ghost use mathlib.Core.Bool.{_||_};
+ghost use lib.Dec.{ltb};
+ghost use Rattle.rules.specs.Limits.{storeLength};
 ghost use Rattle.rules.specs.Records.{groupOf};
 ghost use Rattle.schedule.specs.Run as runs;
 ghost use Rattle.schedule.specs.Parts.{RunReady, RanTo, BothReady, BothRan, FormGood, SoundRan};
@@ -29,7 +32,7 @@ pub(crate) fn no_run(fault: Fault) -> Ran
     ensures { λ r. ⌜ r ≡ runs.notRun fault ⌝ }
 {
     let words = [0u32; 3 * Group::GREATEST];
-    let halves = [0u16; 2 * Group::GREATEST];
+    let halves = [0u16; 3 * Group::GREATEST];
     let bytes = [0u8; 4 * Group::GREATEST];
     let flags = [false; 3 * Group::GREATEST];
     let group = Group {
@@ -60,9 +63,10 @@ pub(crate) fn run_steps(
     bytes: &mut Bytes,
     flags: &mut Flags,
     store: &mut [u64],
+    depths: &mut [u16],
 ) -> Counts
-    requires { ⌜ RunReady (now s) at count (groupOf n (now words) (now halves) (now bytes) (now flags)) (now store) ⌝ }
-    ensures { λ r. ⌜ RanTo (now (s .entry)) at count (groupOf n (now (words .entry)) (now (halves .entry)) (now (bytes .entry)) (now (flags .entry))) (now (store .entry)) (groupOf n (now (words .exit)) (now (halves .exit)) (now (bytes .exit)) (now (flags .exit))) (now (store .exit)) r ⌝ }
+    requires { ⌜ RunReady (now s) at count (groupOf n (now words) (now halves) (now bytes) (now flags)) (now store) (now depths) ⌝ }
+    ensures { λ r. ⌜ RanTo (now (s .entry)) at count (groupOf n (now (words .entry)) (now (halves .entry)) (now (bytes .entry)) (now (flags .entry))) (now (store .entry)) (now (depths .entry)) (groupOf n (now (words .exit)) (now (halves .exit)) (now (bytes .exit)) (now (flags .exit))) (now (store .exit)) (now (depths .exit)) r ⌝ }
 {
     let mut counts = Counts::none();
     let mut i: u32 = 0;
@@ -70,7 +74,7 @@ pub(crate) fn run_steps(
     while i < count {
         let taken = reader::step_at(s, place);
         let step = taken.step;
-        let answer = step_sound(n, words, halves, bytes, flags, store, step);
+        let answer = step_sound(n, words, halves, bytes, flags, store, depths, step);
         counts = counts.counted(answer);
         place = taken.next;
         i += 1;
@@ -78,10 +82,16 @@ pub(crate) fn run_steps(
     counts
 }
 
-// Takes the steps of both sections from a group on, which is sound over a store that is long.
-pub(crate) fn run_both(s: &[u8], places: Places, group: Group, store: &mut [u64]) -> Ran
-    requires { ⌜ BothReady (now s) places group (now store) ⌝ }
-    ensures { λ r. ⌜ BothRan (now (s .entry)) places group (now (store .entry)) r (now (store .exit)) ⌝ }
+// Takes the steps of both sections from a group on, which is sound over stores that are long.
+pub(crate) fn run_both(
+    s: &[u8],
+    places: Places,
+    group: Group,
+    store: &mut [u64],
+    depths: &mut [u16],
+) -> Ran
+    requires { ⌜ BothReady (now s) places group (now store) (now depths) ⌝ }
+    ensures { λ r. ⌜ BothRan (now (s .entry)) places group (now (store .entry)) (now (depths .entry)) r (now (store .exit)) (now (depths .exit)) ⌝ }
 {
     let n = group.n;
     let mut words = group.words;
@@ -98,6 +108,7 @@ pub(crate) fn run_both(s: &[u8], places: Places, group: Group, store: &mut [u64]
         &mut bytes,
         &mut flags,
         store,
+        depths,
     );
     let measured = run_steps(
         s,
@@ -109,6 +120,7 @@ pub(crate) fn run_both(s: &[u8], places: Places, group: Group, store: &mut [u64]
         &mut bytes,
         &mut flags,
         store,
+        depths,
     );
     let last = Group {
         n: n,
@@ -126,6 +138,13 @@ pub(crate) fn run_both(s: &[u8], places: Places, group: Group, store: &mut [u64]
     }
 }
 
+// Whether one of two stores of these lengths is too short.
+pub(crate) fn too_short(store: usize, depths: usize) -> bool
+    ensures { λ r. ⌜ r ≡ (ltb store storeLength || ltb depths storeLength) ⌝ }
+{
+    store < Store::LENGTH || depths < Store::LENGTH
+}
+
 // Runs a sound file: a start with its values, then its steps. Over a store that is too short the start is refused, and so is every step.
 pub(crate) fn run_sound(
     s: &[u8],
@@ -133,13 +152,14 @@ pub(crate) fn run_sound(
     values: [u32; Group::GREATEST],
     places: Places,
     store: &mut [u64],
+    depths: &mut [u16],
 ) -> Ran
     requires { ⌜ FormGood (now s) n values places ⌝ }
-    ensures { λ r. ⌜ SoundRan (now (s .entry)) (now (store .entry)) r (now (store .exit)) ⌝ }
+    ensures { λ r. ⌜ SoundRan (now (s .entry)) (now (store .entry)) (now (depths .entry)) r (now (store .exit)) (now (depths .exit)) ⌝ }
 {
-    let begun = Group::start(&values[..n as usize], store);
+    let begun = Group::start(&values[..n as usize], store, depths);
     let group = begun.group;
-    if store.len() < Store::LENGTH {
+    if too_short(store.len(), depths.len()) {
         let fault = Fault::none();
         let warmup = Counts::refused(places.warmup);
         let measured = Counts::refused(places.measured);
@@ -150,12 +170,12 @@ pub(crate) fn run_sound(
             group,
         };
     }
-    run_both(s, places, group, store)
+    run_both(s, places, group, store, depths)
 }
 
-// Runs a schedule file over a lent store. A faulty file runs no step, and leaves the store as it was.
-pub fn run(file: &[u8], store: &mut [u64]) -> Ran
-    ensures { λ r. ⌜ runs.Runs (now (file .entry)) (now (store .entry)) r (now (store .exit)) ⌝ }
+// Runs a schedule file over a lent store and the lent depths of its messages. A faulty file runs no step, and leaves both as they were.
+pub fn run(file: &[u8], store: &mut [u64], depths: &mut [u16]) -> Ran
+    ensures { λ r. ⌜ runs.Runs (now (file .entry)) (now (store .entry)) (now (depths .entry)) r (now (store .exit)) (now (depths .exit)) ⌝ }
 {
     let form = form_of(file);
     let fault = form.fault;
@@ -164,5 +184,5 @@ pub fn run(file: &[u8], store: &mut [u64]) -> Ran
     }
     let values = form.values;
     let places = form.places;
-    run_sound(file, form.n, values, places, store)
+    run_sound(file, form.n, values, places, store, depths)
 }

@@ -56,11 +56,7 @@ fn sweep_name(name: &[u8], store: &mut [u64; Store::LENGTH], depths: &mut [u16; 
 }
 
 // Of a name that is longer than any file's, the first 4,096 bytes are written.
-fn sweep_argument(
-    i: usize,
-    store: &mut [u64; Store::LENGTH],
-    depths: &mut [u16; Store::LENGTH],
-) {
+fn sweep_argument(i: usize, store: &mut [u64; Store::LENGTH], depths: &mut [u16; Store::LENGTH]) {
     let mut name = io::buffer();
     let length = os::arg(i, &mut name);
     if os::errno() == libc::ENAMETOOLONG {
