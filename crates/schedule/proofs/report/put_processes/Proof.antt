@@ -4,14 +4,14 @@ use mathlib.Core.Path.{_≡_, ap}
 use native.Mathlib.Omega.{arith}
 use lib.ListN.{getD}
 use denote.Ref.{now}
-use mir.Syntax.{w8, w32}
+use mir.Syntax.{w8, w16, w32}
 use mir.Val.{Fits}
 use Rattle.schedule.specs.Limits.{longestLine}
 use Rattle.schedule.specs.Number.{most}
 use Rattle.schedule.specs.Put.{Wrote}
 use Rattle.schedule.specs.Report.{processLines}
 use Rattle.schedule.proofs.PutLaws.{wrote-none, wrote-same, wrote-length}
-use Rattle.schedule.proofs.ReportLaws.{record-narrow, line-long, wrote-line}
+use Rattle.schedule.proofs.ReportLaws.{record-narrow, depth-narrow, line-long, wrote-line}
 use borrow.Author.Needs.{needs}
 use Rattle.schedule.proofs.report.put_processes.Statement.{statement}
 use Rattle.schedule.proofs.report.put_processes.Tie as tie
@@ -47,9 +47,10 @@ loop-again c =
     let g = c .before .before .before .before .before .before .before .before .args .group in
     let i = c .before .before .before .before .before .loop .i in
     let words : (j : ℕ) → Fits w32 (getD (g .words) j 0) = λ j. search needs in
+    let halves : (j : ℕ) → Fits w16 (getD (g .halves) j 0) = λ j. search needs in
     let bytes : (j : ℕ) → Fits w8 (getD (g .bytes) j 0) = λ j. search needs in
     let small : i + 1 ≤ most = omega arith in
-    let long = line-long g (i + 1) small (record-narrow g words bytes (i + 1)) in
+    let long = line-long g (i + 1) small (record-narrow g words bytes (i + 1)) (depth-narrow g halves (i + 1)) in
     (omega arith, wrote-line g i (c .before .before .before .before .before .loop .inv .1) (c .before .before .put-process .ensures), omega (arith, long, c .before .before .put-process .ensures, c .before .before .before .before .before .loop .inv .2))
 
 same-length : tie.Need-same-length Inv-loop μ-loop

@@ -14,24 +14,24 @@ put-estimate-requires : tie.Need-put-estimate-requires
 put-estimate-requires c κs =
     let p = c .before .before .before .before .before .before .args .p in
     let narrow : Narrow p = search needs in
-    let room = room-after 45 (c .before .before .before .put-place .ensures) (place-long p narrow) (omega arith) in
+    let room = room-after 56 (c .before .before .before .put-place .ensures) (place-long p narrow) (omega arith) in
     omega arith
 
 put-decision-requires : tie.Need-put-decision-requires
 put-decision-requires c κs =
     let p = c .before .before .before .before .before .before .before .before .before .before .args .p in
     let narrow : Narrow p = search needs in
-    let room = room-after 45 (c .before .before .before .before .before .before .before .put-place .ensures) (place-long p narrow) (omega arith) in
-    let room′ = room-after 23 (c .before .before .before .put-estimate .ensures) (estimate-long p narrow) room in
+    let room = room-after 56 (c .before .before .before .before .before .before .before .put-place .ensures) (place-long p narrow) (omega arith) in
+    let room′ = room-after 34 (c .before .before .before .put-estimate .ensures) (estimate-long p narrow) room in
     omega arith
 
 put-recoveries-requires : tie.Need-put-recoveries-requires
 put-recoveries-requires c κs =
     let p = c .before .before .before .before .before .before .before .before .before .before .before .before .before .before .args .p in
     let narrow : Narrow p = search needs in
-    let room = room-after 45 (c .before .before .before .before .before .before .before .before .before .before .before .put-place .ensures) (place-long p narrow) (omega arith) in
-    let room′ = room-after 23 (c .before .before .before .before .before .before .before .put-estimate .ensures) (estimate-long p narrow) room in
-    room-after 12 (c .before .before .before .put-decision .ensures) (decision-long p narrow) room′
+    let room = room-after 56 (c .before .before .before .before .before .before .before .before .before .before .before .put-place .ensures) (place-long p narrow) (omega arith) in
+    let room′ = room-after 34 (c .before .before .before .before .before .before .before .put-estimate .ensures) (estimate-long p narrow) room in
+    room-after 23 (c .before .before .before .put-decision .ensures) (decision-long p narrow) room′
 
 same-length : tie.Need-same-length
 same-length c = search needs

@@ -16,18 +16,15 @@ cast-put-field c = search needs
 put-field-requires : tie.Need-put-field-requires
 put-field-requires c κs = search needs
 
-slice-aggregate-put-bytes : tie.Need-slice-aggregate-put-bytes
-slice-aggregate-put-bytes c = search needs
-
-put-bytes-requires : tie.Need-put-bytes-requires
-put-bytes-requires c κs = room-after 1 (c .before .before .before .before .put-field .ensures) (field-long space _ (search needs)) (omega arith)
+put-depth-requires : tie.Need-put-depth-requires
+put-depth-requires c κs = room-after 12 (c .before .before .before .put-field .ensures) (field-long space _ (search needs)) (omega arith)
 
 same-length : tie.Need-same-length
 same-length c = search needs
 
 returns : tie.Need-returns
 unfolding recoveriesEnd
-returns c = wrote-more (c .before .before .before .before .before .before .before .put-field .ensures) (c .before .before .put-bytes .ensures)
+returns c = wrote-more (c .before .before .before .before .before .before .put-field .ensures) (c .before .before .put-depth .ensures)
 
 pub put-recoveries-spec : {M : Type 1} → statement M
 put-recoveries-spec =
@@ -36,7 +33,6 @@ put-recoveries-spec =
     slice-aggregate-put-field
     cast-put-field
     put-field-requires
-    slice-aggregate-put-bytes
-    put-bytes-requires
+    put-depth-requires
     same-length
     returns)

@@ -11,18 +11,28 @@ no-run-requires : tie.Need-no-run-requires
 no-run-requires c κs = search needs
 
 returns : tie.Need-returns
-returns c = run-bad _ _ (c .before .before .before .before .form-of .ensures) (c .before .if1 .taken) _ _ (c .no-run .ensures)
+returns c = run-bad _ _ (c .before .before .before .before .form-of .ensures) (c .before .if1 .taken) _ _ _ (c .no-run .ensures)
 
 run-sound-requires : tie.Need-run-sound-requires
-run-sound-requires c κs = run-form _ _ (c .before .before .before .before .before .before .form-of .ensures) (c .before .before .before .if1 .left)
+run-sound-requires c κs = run-form _ _ (c .before .before .before .before .before .before .before .form-of .ensures) (c .before .before .before .before .if1 .left)
 
 same-length : tie.Need-same-length
 same-length c = search needs
 
+same-length-2 : tie.Need-same-length-2
+same-length-2 c = search needs
+
 returns-2 : tie.Need-returns-2
-returns-2 c = run-good _ _ (c .before .before .before .before .before .before .before .before .before .form-of .ensures) (c .before .before .before .before .before .before .if1 .left) _ _ _ (c .before .before .run-sound .ensures)
+returns-2 c = run-good _ _ (c .before .before .before .before .before .before .before .before .before .before .before .before .form-of .ensures) (c .before .before .before .before .before .before .before .before .before .if1 .left) _ _ _ _ _ (c .before .before .before .before .run-sound .ensures)
 
 pub run-spec : {M : Type 1} → statement M
 run-spec =
     tie.close
-    (tie.spec form-of-requires no-run-requires returns run-sound-requires same-length returns-2)
+    (tie.spec
+    form-of-requires
+    no-run-requires
+    returns
+    run-sound-requires
+    same-length
+    same-length-2
+    returns-2)
