@@ -27,19 +27,22 @@ slice-aggregate-write-report c = search needs
 slice-aggregate-write-report-2 : tie.Need-slice-aggregate-write-report-2
 slice-aggregate-write-report-2 c = search needs
 
+slice-aggregate-write-report-3 : tie.Need-slice-aggregate-write-report-3
+slice-aggregate-write-report-3 c = search needs
+
 write-report-requires : tie.Need-write-report-requires
 write-report-requires c κs = search needs
 
 array-share-prefix-out : tie.Need-array-share-prefix-out
 array-share-prefix-out c =
-    let w = c .before .write-report in
+    let w = c .before .before .write-report in
     omega (arith, w .ensures .bytes .room, w .ensures .bytes .end, wrote-length (w .ensures .bytes))
 
 slice-aggregate-write-all : tie.Need-slice-aggregate-write-all
 slice-aggregate-write-all c =
-    let w = c .before .before .write-report in
-    let h : w .result ≤ length (w .last .1 .1 .0) = omega (arith, w .ensures .bytes .room, w .ensures .bytes .end, wrote-length (w .ensures .bytes)) in
-    sym (length-take-le (w .result) (w .last .1 .1 .0) h)
+    let w = c .before .before .before .write-report in
+    let h : w .result ≤ length (w .last .1 .1 .1 .0) = omega (arith, w .ensures .bytes .room, w .ensures .bytes .end, wrote-length (w .ensures .bytes)) in
+    sym (length-take-le (w .result) (w .last .1 .1 .1 .0) h)
 
 write-all-requires : tie.Need-write-all-requires
 write-all-requires c κs = search needs
@@ -57,6 +60,7 @@ main-spec =
     array-share-prefix-file
     slice-aggregate-write-report
     slice-aggregate-write-report-2
+    slice-aggregate-write-report-3
     write-report-requires
     array-share-prefix-out
     slice-aggregate-write-all

@@ -5,10 +5,10 @@ use Rattle.sweep.proofs.main.Statement.{statement}
 use Rattle.sweep.proofs.main.Tie as tie
 
 abbrev Inv-loop : tie.InvT-loop
-Inv-loop store₀ count i₀ store i = Unit {0}
+Inv-loop store₀ depths₀ count i₀ store depths i = Unit {0}
 
 abbrev μ-loop : tie.MeasureT-loop
-μ-loop store₀ count i₀ store i = count - i
+μ-loop store₀ depths₀ count i₀ store depths i = count - i
 
 arg-count-requires : tie.Need-arg-count-requires Inv-loop μ-loop
 arg-count-requires c κs = tt

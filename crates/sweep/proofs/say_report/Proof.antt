@@ -20,9 +20,9 @@ array-share-prefix-out c =
 slice-aggregate-say : tie.Need-slice-aggregate-say
 slice-aggregate-say c =
     let w = c .before .write-report in
-    let h : w .result ≤ length (w .last .1 .1 .0) =
+    let h : w .result ≤ length (w .last .1 .1 .1 .0) =
     omega (arith, w .ensures .bytes .room, w .ensures .bytes .end, wrote-length (w .ensures .bytes)) in
-    sym (length-take-le (w .result) (w .last .1 .1 .0) h)
+    sym (length-take-le (w .result) (w .last .1 .1 .1 .0) h)
 
 say-requires : tie.Need-say-requires
 say-requires c κs = search needs
