@@ -1,5 +1,5 @@
 -- The refusals of a step, once 11, the short 14 and the group's 2 are ruled out, as the parts that the code tests, and the course that follows. Assumes nothing.
-use mathlib.Core.Path.{_≡_, refl, sym, ap, ap₂, subst, _∙_}
+use mathlib.Core.Path.{_≡_, refl, sym, ap, ap₂, _∙_}
 use mathlib.Core.Bool.{Bool, true, false, _&&_, not}
 use mathlib.Core.List.{List}
 use Prim.Native.Nat.{ℕ, zero, suc, _+_, _≤_, _<_}
@@ -16,7 +16,6 @@ use Rattle.rules.specs.declared.process.Message.the-variants.{Nothing, E
 use Rattle.rules.specs.declared.step.Step.{Step}
 use Rattle.rules.specs.declared.step.Step.the-variants.{DeliverE, DeliverS, DeliverF, DeliverDecision, Suspect, Pause, Crash, Recover}
 use Rattle.rules.specs.declared.course.Address.the-variants.{Misses, At}
-use Rattle.rules.specs.declared.course.Course.{Course}
 use Rattle.rules.specs.declared.course.Course.the-variants.{Idles, Refuses, Takes}
 use Rattle.rules.specs.Limits.{greatestSize, lastRound, tooMany, storeLength, among}
 use Rattle.rules.specs.Records.{processAt, withProcess, withDepth}
@@ -28,11 +27,11 @@ use Rattle.rules.specs.Idle.{idle}
 use Rattle.rules.specs.Refusals.{row, every, short, strange, late, isRecover, down, unsent, misnamed, maySuspect, impossible, recoversPast, entersPast, refusalBy}
 use Rattle.rules.specs.Step.{orIdle, unlessRefused, handOvers, sentBy, decidesNow}
 use Rattle.rules.specs.Step as base
-use Rattle.rules.specs.Depths.{depthIn, raises, raised, depthAfter, dated, datedBoth, damaged, tooDeep, refusal, outcome, course, deepened, datedBy, settled, stepped}
+use Rattle.rules.specs.Depths.{deliveredDepth, raised, depthAfter, dated, datedBoth, damaged, tooDeep, refusal, outcome, course, deepened, datedBy, settled, stepped}
 use Rattle.rules.specs.Parts.{numberRows, unlessMissed, addressOf, heldRows, unlessPast, orPast, orImpossible, orUp, lastCourse, unlessHeld, heldCourse, Ready, Numbered, Ranged, Dated, Handable}
 use Rattle.rules.proofs.RowLaws.{orElse, number-else, held-else, Delivered, delivered-zero, owned-zero, held-zero, among-in}
 use Rattle.rules.proofs.StepLaws.{up-yes, up-many, up-no}
-use Rattle.rules.proofs.SoundLaws.{sound-facts, Taking}
+use Rattle.rules.proofs.SoundLaws.{sound-facts}
 use Rattle.rules.proofs.DepthLaws.{deep-sound, course-takes}
 use Rattle.rules.specs.Tally.{bitOf}
 
@@ -91,25 +90,25 @@ else-next part after e = rw e
 module _ (g : Group) (l d : List ℕ) (s : Step) (h : Ready g l d) where
   -- those of the step's numbers, then those of the record, the entry and its depth, then 7, 13 and 8
   parts-refusal : refusal g l d s
-      ≡ orElse (numberRows (g .n) s) (orElse (heldRows (g .n) (processAt g (takerOf s) .up) (entryIn l s) (depthIn d s) (delivers s) (isRecover s)) (rest g l s))
+      ≡ orElse (numberRows (g .n) s) (orElse (heldRows (g .n) (processAt g (takerOf s) .up) (entryIn l s) (deliveredDepth d s) (delivers s) (isRecover s)) (rest g l s))
   unfolding strange down unsent misnamed tooDeep
   parts-refusal =
       ready g l d s h
       ∙ ap (λ (k : ℕ). row (not (every (among (g .n)) (numbersOf s))) 3 (row (late s) 4 k))
-      (held-else (g .n) (processAt g (takerOf s) .up) (entryIn l s) (depthIn d s) (delivers s) (isRecover s) (rest g l s))
-      ∙ number-else (g .n) s (orElse (heldRows (g .n) (processAt g (takerOf s) .up) (entryIn l s) (depthIn d s) (delivers s) (isRecover s)) (rest g l s))
+      (held-else (g .n) (processAt g (takerOf s) .up) (entryIn l s) (deliveredDepth d s) (delivers s) (isRecover s) (rest g l s))
+      ∙ number-else (g .n) s (orElse (heldRows (g .n) (processAt g (takerOf s) .up) (entryIn l s) (deliveredDepth d s) (delivers s) (isRecover s)) (rest g l s))
 
   -- refused by 3 or 4
   pub numbers-refuse : {k : ℕ} → numberRows (g .n) s ≡ k → ¬ (k ≡ 0) → Refuses k ≡ course g l d s
   numbers-refuse a b = refuses g l d s (parts-refusal ∙ else-first _ _ a b) b
 
   -- refused by 5, 6, the entry's 2 or the message's 14
-  held-refuse : {k : ℕ} → numberRows (g .n) s ≡ 0 → heldRows (g .n) (processAt g (takerOf s) .up) (entryIn l s) (depthIn d s) (delivers s) (isRecover s) ≡ k
+  held-refuse : {k : ℕ} → numberRows (g .n) s ≡ 0 → heldRows (g .n) (processAt g (takerOf s) .up) (entryIn l s) (deliveredDepth d s) (delivers s) (isRecover s) ≡ k
       → ¬ (k ≡ 0) → Refuses k ≡ course g l d s
   held-refuse z a b = refuses g l d s (parts-refusal ∙ else-next _ _ z ∙ else-first _ _ a b) b
 
   -- refused by 7, 13 or 8, or not
-  held-pass : numberRows (g .n) s ≡ 0 → heldRows (g .n) (processAt g (takerOf s) .up) (entryIn l s) (depthIn d s) (delivers s) (isRecover s) ≡ 0
+  held-pass : numberRows (g .n) s ≡ 0 → heldRows (g .n) (processAt g (takerOf s) .up) (entryIn l s) (deliveredDepth d s) (delivers s) (isRecover s) ≡ 0
       → refusal g l d s ≡ rest g l s
   held-pass z y = parts-refusal ∙ else-next _ _ z ∙ else-next _ _ y
 
@@ -201,13 +200,13 @@ misses-course {k} g l d s h e = go (numberRows (g .n) s) refl
         ap Refuses (sym y) ∙ numbers-refuse g l d s h z (λ b. omega arith)
 
 pub held-course : (g : Group) (l d : List ℕ) (s : Step) {i e k : ℕ} {p : Process} → Ready g l d → numberRows (g .n) s ≡ 0
-    → i ≡ takerOf s → e ≡ entryIn l s → k ≡ depthIn d s → p ≡ processAt g (takerOf s) → heldCourse (g .n) i e k p s ≡ course g l d s
+    → i ≡ takerOf s → e ≡ entryIn l s → k ≡ deliveredDepth d s → p ≡ processAt g (takerOf s) → heldCourse (g .n) i e k p s ≡ course g l d s
 unfolding heldCourse unlessHeld
 held-course g l d s h z hi he hk hp =
-    rw (hi, he, hk, hp) (go (heldRows (g .n) (processAt g (takerOf s) .up) (entryIn l s) (depthIn d s) (delivers s) (isRecover s)) refl)
+    rw (hi, he, hk, hp) (go (heldRows (g .n) (processAt g (takerOf s) .up) (entryIn l s) (deliveredDepth d s) (delivers s) (isRecover s)) refl)
   where
-    go : (m : ℕ) → heldRows (g .n) (processAt g (takerOf s) .up) (entryIn l s) (depthIn d s) (delivers s) (isRecover s) ≡ m
-        → heldCourse (g .n) (takerOf s) (entryIn l s) (depthIn d s) (processAt g (takerOf s)) s ≡ course g l d s
+    go : (m : ℕ) → heldRows (g .n) (processAt g (takerOf s) .up) (entryIn l s) (deliveredDepth d s) (delivers s) (isRecover s) ≡ m
+        → heldCourse (g .n) (takerOf s) (entryIn l s) (deliveredDepth d s) (processAt g (takerOf s)) s ≡ course g l d s
     go zero y = rw y (last-course g l d s (held-pass g l d s h z y))
     go (suc m) y = rw y (held-refuse g l d s h z y (λ b. omega arith))
 

@@ -3,7 +3,7 @@ use mathlib.Core.Path.{_≡_, refl, sym, ap, subst, _∙_}
 use mathlib.Core.Bool.{Bool, true, false, not, _&&_}
 use mathlib.Core.List.{List}
 use mathlib.Core.Logic.{_≢_}
-use Prim.Native.Nat.{ℕ, zero, suc, _+_, _≤_}
+use Prim.Native.Nat.{ℕ, zero, suc, _≤_}
 use native.Mathlib.Decide.{ℕ-discrete}
 use native.Mathlib.Nat.{le-trans}
 use native.Mathlib.Omega.{arith}
@@ -17,7 +17,7 @@ use Rattle.rules.specs.declared.step.Step.{Step}
 use Rattle.rules.specs.declared.course.Course.{Course}
 use Rattle.rules.specs.declared.course.Course.the-variants.{Idles, Refuses, Takes}
 use Rattle.rules.specs.Limits.{greatestSize, storeLength, deepestMessage, deepestProcess, among}
-use Rattle.rules.specs.Records.{processAt, withProcess, depthAt, withDepth, Sized, blankGroup}
+use Rattle.rules.specs.Records.{withProcess, depthAt, withDepth, Sized, blankGroup}
 use Rattle.rules.specs.Store.{handOver, cleared}
 use Rattle.rules.specs.Answers.{saysRefused}
 use Rattle.rules.specs.Steps.{takerOf, delivers}
@@ -25,12 +25,12 @@ use Rattle.rules.specs.Refusals.{row, short, miscounted}
 use Rattle.rules.specs.Start.{startedTo, firstMessage, begun}
 use Rattle.rules.specs.Step.{unlessRefused, handOvers, sentBy}
 use Rattle.rules.specs.Step as base
-use Rattle.rules.specs.Depths.{depthIn, raises, raised, depthAfter, datedBoth, damaged, tooDeep, refusal, startRefusal, outcome, opened, unlessRefusedStart, started, course, deepened, datedBy, settled, stepped}
+use Rattle.rules.specs.Depths.{deliveredDepth, raises, raised, depthAfter, datedBoth, damaged, tooDeep, refusal, startRefusal, outcome, opened, unlessRefusedStart, course, deepened, datedBy, settled, stepped}
 use Rattle.rules.proofs.BoolLaws.{and-left}
 use Rattle.rules.proofs.RowLaws.{row-zero, among-true}
 use Rattle.rules.proofs.StoreLaws.{opened-length, cleared-length}
-use Rattle.rules.proofs.GroupLaws.{with-size, sized-with, sized-blank, sized-started, started-size}
-use Rattle.rules.proofs.SoundLaws.{Whole, Sound, Taking, taker-in, sound-with, sound-started, overs-length}
+use Rattle.rules.proofs.GroupLaws.{sized-with, sized-blank, sized-started, started-size}
+use Rattle.rules.proofs.SoundLaws.{Whole, Sound, Taking, sound-with, sound-started, overs-length}
 use Rattle.rules.proofs.DepthLaws.{deep-facts, facts-deep, DeepPassed, course-takes, dated-length}
 use Rattle.rules.proofs.ForgetLaws.{process-deep, depth-put, depth-kept, sized-deep, depth-with, depth-started}
 
@@ -79,10 +79,10 @@ raises-delivers g s e = and-left (delivers s) _ e
 after-fits : (g : Group) (l d : List ℕ) (s : Step) → DeepPassed g l d s → depthAt g (takerOf s) ≤ deepestProcess → depthAfter g d s ≤ deepestProcess
 unfolding depthAfter tooDeep
 after-fits g l d s h le =
-    raised-fits (raises g s) (depthIn d s) (depthAt g (takerOf s)) (λ e. shallow (delivers s) (raises-delivers g s e) (h .shallow)) le
+    raised-fits (raises g s) (deliveredDepth d s) (depthAt g (takerOf s)) (λ e. shallow (delivers s) (raises-delivers g s e) (h .shallow)) le
   where
-    shallow : (t : Bool) → t ≡ true → (t && ltb deepestMessage (depthIn d s)) ≡ false → depthIn d s ≤ deepestMessage
-    shallow true e f = ltb-false deepestMessage (depthIn d s) f
+    shallow : (t : Bool) → t ≡ true → (t && ltb deepestMessage (deliveredDepth d s)) ≡ false → deliveredDepth d s ≤ deepestMessage
+    shallow true e f = ltb-false deepestMessage (deliveredDepth d s) f
     shallow false e f = let z : _≡_ {A = ℕ} 0 1 = cc in absurd (omega arith)
 
 -- a record and a depth put into a sound group

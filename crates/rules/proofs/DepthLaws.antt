@@ -14,14 +14,14 @@ use Rattle.rules.specs.declared.process.Message.the-variants.{Nothing, E
 use Rattle.rules.specs.declared.process.Next.{Next}
 use Rattle.rules.specs.declared.step.Step.{Step}
 use Rattle.rules.specs.declared.course.Course.{Course}
-use Rattle.rules.specs.declared.course.Course.the-variants.{Idles, Refuses, Takes}
+use Rattle.rules.specs.declared.course.Course.the-variants.{Refuses, Takes}
 use Rattle.rules.specs.Limits.{greatestSize, deepestProcess, among}
 use Rattle.rules.specs.Records.{processAt, depthAt}
 use Rattle.rules.specs.Store.{placeOf, turned}
 use Rattle.rules.specs.Tally.{bitOf}
 use Rattle.rules.specs.Steps.{takerOf, isCut, eventOf}
 use Rattle.rules.specs.Idle.{idle}
-use Rattle.rules.specs.Refusals.{allOf, short, whole, refusalBy}
+use Rattle.rules.specs.Refusals.{allOf, short, whole}
 use Rattle.rules.specs.Refusals as base
 use Rattle.rules.specs.Step.{idles, orIdle, unlessRefused}
 use Rattle.rules.specs.Depths.{datedIf, dated, damaged, tooDeep, refusal, course}
@@ -29,7 +29,7 @@ use Rattle.rules.proofs.BoolLaws.{and-left, and-right, and-both}
 use Rattle.rules.proofs.AllLaws.{all-each, all-every}
 use Rattle.rules.proofs.RowLaws.{among-true, among-in}
 use Rattle.rules.proofs.StoreLaws.{IsMessage, other}
-use Rattle.rules.proofs.SoundLaws.{Sound, sound-facts, facts-sound, whole-facts, facts-whole, Passed, PassedBy, by-passed, Taking, Fine, passed-fine}
+use Rattle.rules.proofs.SoundLaws.{Sound, facts-sound, whole-facts, facts-whole, Passed, PassedBy, by-passed, Taking, Fine, passed-fine}
 
 -- ---- a sound group whose processes are not too deep
 

@@ -39,7 +39,7 @@ unfolding ones
     fresh startedTo opened begun unlessRefusedStart started
     idles orIdle unlessRefused course handOvers sentBy decidesNow settled stepped
     depthIn depthAt withDepth
-    deep.depthIn deep.raises deep.raised deep.depthAfter deep.datedIf deep.dated deep.datedBoth deep.damaged deep.tooDeep deep.refusal deep.startRefusal
+    deep.deliveredDepth deep.raises deep.raised deep.depthAfter deep.datedIf deep.dated deep.datedBoth deep.damaged deep.tooDeep deep.refusal deep.startRefusal
     deep.opened deep.unlessRefusedStart deep.started deep.course deep.deepened deep.datedBy deep.settled deep.stepped
     run.startState run.next run.after
     allDeep allDated ends depthsHold goodRun relayFirst coordinatorCrashes cutKeeps depthTable

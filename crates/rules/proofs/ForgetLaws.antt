@@ -9,7 +9,7 @@ use lib.ListN.{length, getD, set, take, replicate, length-set, length-append, le
 use lib.Seq.{getD-set-same, getD-set-other, getD-append-add}
 use Rattle.rules.specs.declared.group.Group.{Group}
 use Rattle.rules.specs.declared.process.Process.{Process}
-use Rattle.rules.specs.Records.{groupOf, put₂, put₃, put₄, processAt, withProcess, depthIn, depthAt, withDepth, Sized, blankGroup}
+use Rattle.rules.specs.Records.{groupOf, put₃, put₄, processAt, withProcess, depthIn, depthAt, withDepth, Sized, blankGroup}
 use Rattle.rules.specs.Start.{startedTo, fresh}
 use Rattle.rules.specs.DepthRun.{forgetting}
 use Rattle.rules.proofs.GroupLaws.{sized-started}

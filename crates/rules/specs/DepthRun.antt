@@ -57,8 +57,8 @@ abbrev pub at : List ℕ → List ℕ → List ℕ → List Step → DeepState
 at vs l d ss = after (startState vs l d) ss
 
 -- the depth of process i, and that of the message at a place of the store
-abbrev pub depthOf : DeepState → ℕ → ℕ
-depthOf a i = depthAt (a .group) i
+abbrev pub processDepth : DeepState → ℕ → ℕ
+processDepth a i = depthAt (a .group) i
 
 abbrev pub messageDepth : DeepState → ℕ → ℕ
 messageDepth a k = getD (a .depths) k 0
@@ -102,7 +102,7 @@ AnswersStay = EveryRun λ vs l d ss. answers (startState vs l d) ss ≡ run.answ
 abbrev pub DepthsFit : Type 0
 DepthsFit = EveryRun λ vs l d ss.
     ((k : ℕ) → k < storeLength → messageDepth (at vs l d ss) k ≤ deepestMessage)
-    × ((i : ℕ) → Of vs i → depthOf (at vs l d ss) i ≤ deepestProcess)
+    × ((i : ℕ) → Of vs i → processDepth (at vs l d ss) i ≤ deepestProcess)
 
 -- "so neither new refusal occurs there": not 14, and not 2 or 11 either
 abbrev pub NeverFourteen : Type 0
@@ -120,24 +120,24 @@ PastDepthsKept = EveryRun λ vs l d ss. (k : ℕ) → storeLength ≤ k → mess
 -- "kept through crashes, pauses, recoveries": while a process is down, and when it recovers, its depth is the one that it had when it went down
 abbrev pub DepthRecovery : Type 0
 DepthRecovery = EveryRun λ vs l d ss. (ts : List Step) (i : ℕ) → Of vs i → safety.DownThrough (safety.at vs l ss) ts i
-    → (depthOf (after (at vs l d ss) ts) i ≡ depthOf (at vs l d ss) i)
-    × (depthOf (next (after (at vs l d ss) ts) (Recover i)) i ≡ depthOf (at vs l d ss) i)
+    → (processDepth (after (at vs l d ss) ts) i ≡ processDepth (at vs l d ss) i)
+    × (processDepth (next (after (at vs l d ss) ts) (Recover i)) i ≡ processDepth (at vs l d ss) i)
 
 -- a pause, a crash and a suspicion change no depth, and a cut leaves the depth of the same step uncut
 abbrev pub GoingDownKeepsDepth : Type 0
 GoingDownKeepsDepth = EveryRun λ vs l d ss. (i : ℕ) (c : Bool) → Of vs i
-    → (depthOf (next (at vs l d ss) (Pause i)) i ≡ depthOf (at vs l d ss) i)
-    × (depthOf (next (at vs l d ss) (Crash i)) i ≡ depthOf (at vs l d ss) i)
-    × (depthOf (next (at vs l d ss) (Suspect i c)) i ≡ depthOf (at vs l d ss) i)
+    → (processDepth (next (at vs l d ss) (Pause i)) i ≡ processDepth (at vs l d ss) i)
+    × (processDepth (next (at vs l d ss) (Crash i)) i ≡ processDepth (at vs l d ss) i)
+    × (processDepth (next (at vs l d ss) (Suspect i c)) i ≡ processDepth (at vs l d ss) i)
 
 abbrev pub CutKeepsDepth : Type 0
 CutKeepsDepth = EveryRun λ vs l d ss. (s : Step) (i : ℕ) → Of vs i
-    → depthOf (next (at vs l d ss) (safety.cut s)) i ≡ depthOf (next (at vs l d ss) s) i
+    → processDepth (next (at vs l d ss) (safety.cut s)) i ≡ processDepth (next (at vs l d ss) s) i
 
 -- "the depth of a decided process is its decision's": it stays
 abbrev pub DecisionDepthStays : Type 0
 DecisionDepthStays = EveryRun λ vs l d ss. (ts : List Step) (i : ℕ) → Of vs i → decidedIn (at vs l d ss) i ≡ true
-    → depthOf (after (at vs l d ss) ts) i ≡ depthOf (at vs l d ss) i
+    → processDepth (after (at vs l d ss) ts) i ≡ processDepth (at vs l d ss) i
 
 -- ---- 13: two communication steps
 
@@ -196,7 +196,7 @@ abbrev pub TwoSteps : Type 0
 TwoSteps = EveryRun λ vs l d ss. (ts us : List Step) (i j r : ℕ) (c : Bool) → 2 ≤ length vs
     → plain ss ≡ true → led (startState vs l d) ss ≡ true → ss ≡ ts ++ (DeliverE i j r c ∷ us)
     → Of vs i → decidedIn (at vs l d ts) i ≡ false → decidedIn (next (at vs l d ts) (DeliverE i j r c)) i ≡ true
-    → (depthOf (next (at vs l d ts) (DeliverE i j r c)) i ≡ 2) × (depthOf (at vs l d ss) i ≡ 2)
+    → (processDepth (next (at vs l d ts) (DeliverE i j r c)) i ≡ 2) × (processDepth (at vs l d ss) i ≡ 2)
 
 -- ---- 14: depth means what it says
 
@@ -228,7 +228,7 @@ Longest vs l ss i m = (m ≢ 0 → Ends vs l ss i m) × ((k : ℕ) → Ends vs l
 
 -- "The depth of a process at a moment of a run is the length of the longest chain whose last delivery is to it"
 abbrev pub DepthIsLongest : Type 0
-DepthIsLongest = EveryRun λ vs l d ss. (i : ℕ) → Of vs i → Longest vs l ss i (depthOf (at vs l d ss) i)
+DepthIsLongest = EveryRun λ vs l d ss. (i : ℕ) → Of vs i → Longest vs l ss i (processDepth (at vs l d ss) i)
 
 -- ---- demand 3, of the run that start and step make
 

@@ -8,7 +8,7 @@ use lib.ListN.{replicate}
 use Rattle.rules.specs.declared.step.Step.{Step}
 use Rattle.rules.specs.declared.step.Step.the-variants.{DeliverE, DeliverS, DeliverF, DeliverDecision, Suspect, Crash, Recover}
 use Rattle.rules.specs.Limits.{storeLength}
-use Rattle.rules.specs.DepthRun.{DeepState, startState, after, depthOf, messageDepth, decidedIn}
+use Rattle.rules.specs.DepthRun.{DeepState, startState, after, processDepth, messageDepth, decidedIn}
 
 -- a process, whether it has decided, and its depth; and a place of the store with the depth of its message
 pub record Deep : Type 0 where
@@ -39,7 +39,7 @@ pub record DepthRow : Type 0 where
 
 unfoldable pub allDeep : DeepState → List Deep → Bool
 allDeep a [] = true
-allDeep a (x ∷ xs) = (Bool·beq (decidedIn a (x .process)) (x .decided) && eqb (depthOf a (x .process)) (x .depth)) && allDeep a xs
+allDeep a (x ∷ xs) = (Bool·beq (decidedIn a (x .process)) (x .decided) && eqb (processDepth a (x .process)) (x .depth)) && allDeep a xs
 
 unfoldable pub allDated : DeepState → List Dated → Bool
 allDated a [] = true

@@ -6,7 +6,7 @@ use mathlib.Core.Bool.{Bool, true, false, _&&_, not}
 use mathlib.Core.List.{List}
 use Prim.Native.Nat.{ℕ, zero, suc, _+_, max}
 use lib.Dec.{eqb, leb, ltb}
-use lib.ListN.{length, getD, set}
+use lib.ListN.{getD, set}
 use Rattle.rules.specs.declared.group.Group.{Group}
 use Rattle.rules.specs.declared.process.Message.{Message}
 use Rattle.rules.specs.declared.process.Message.the-variants.{Nothing, E, S, F, Decision}
@@ -18,7 +18,7 @@ use Rattle.rules.specs.declared.course.Course.the-variants.{Idles, Refus
 use Rattle.rules.specs.Limits.{greatestSize, storeLength, deepestMessage, deepestProcess, among}
 use Rattle.rules.specs.Records.{processAt, depthAt, withDepth, blankGroup}
 use Rattle.rules.specs.Store.{placeOf, handOver, cleared}
-use Rattle.rules.specs.Answers.{Said, Outcome, said, saysRefused}
+use Rattle.rules.specs.Answers.{Said, said, saysRefused}
 use Rattle.rules.specs.Steps.{takerOf, delivers, slotOf}
 use Rattle.rules.specs.Idle.{idle}
 use Rattle.rules.specs.Refusals.{row, allOf, short, miscounted, whole, refusalBy}
@@ -29,8 +29,8 @@ use Rattle.rules.specs.Step as base
 -- ---- the depth of a process
 
 -- the depth of the delivered message in the second store d, "at the same places"
-unfoldable pub depthIn : List ℕ → Step → ℕ
-depthIn d s = getD d (slotOf s) 0
+unfoldable pub deliveredDepth : List ℕ → Step → ℕ
+deliveredDepth d s = getD d (slotOf s) 0
 
 -- "A delivery that is not idle raises the receiver's depth"; no other step does
 unfoldable pub raises : Group → Step → Bool
@@ -43,7 +43,7 @@ raised false m k = k
 
 -- the depth of the process that takes the step, after it. "This holds for a cut one too": a cut is no less a delivery
 unfoldable pub depthAfter : Group → List ℕ → Step → ℕ
-depthAfter g d s = raised (raises g s) (depthIn d s) (depthAt g (takerOf s))
+depthAfter g d s = raised (raises g s) (deliveredDepth d s) (depthAt g (takerOf s))
 
 -- ---- the depth of a message
 
@@ -76,7 +76,7 @@ damaged g = not (among greatestSize (g .n) && allOf (λ i. whole (g .n) (process
 
 -- 14: "where the delivered message's depth is above 3,087"
 unfoldable pub tooDeep : List ℕ → Step → Bool
-tooDeep d s = delivers s && ltb deepestMessage (depthIn d s)
+tooDeep d s = delivers s && ltb deepestMessage (deliveredDepth d s)
 
 -- "14 right after 11 .. where the second store is shorter than 3,088 .. and 14 right after the entry's 2"
 unfoldable pub refusal : Group → List ℕ → List ℕ → Step → ℕ

@@ -56,6 +56,21 @@ strange g s = not (every (among (g .n)) (numbersOf s))
 unfoldable pub late : Step → Bool
 late s = ltb lastRound (roundOf s)
 
+-- "Possible if i is undecided, in phase 1 and unmarked."
+unfoldable pub maySuspect : Process → Bool
+maySuspect p = not (p .decided) && (eqb (p .phase) 1 && not (p .marked))
+
+-- 7: "recover of an up process; a suspicion not possible"
+unfoldable pub impossible : Group → Step → Bool
+impossible g (DeliverE i j r c) = false
+impossible g (DeliverS i j r c) = false
+impossible g (DeliverF i j r c) = false
+impossible g (DeliverDecision i j c) = false
+impossible g (Suspect i c) = not (maySuspect (processAt g i))
+impossible g (Pause i) = false
+impossible g (Crash i) = false
+impossible g (Recover i) = processAt g i .up
+
 -- 5: "i is down, in any step but recover"
 unfoldable pub isRecover : Step → Bool
 isRecover (DeliverE i j r c) = false
@@ -77,21 +92,6 @@ unsent l s = delivers s && eqb (entryIn l s) 0
 -- 2: "its entry has proposer 0 or above n"
 unfoldable pub misnamed : Group → List ℕ → Step → Bool
 misnamed g l s = delivers s && not (among (g .n) (proposerOf (entryIn l s)))
-
--- "Possible if i is undecided, in phase 1 and unmarked."
-unfoldable pub maySuspect : Process → Bool
-maySuspect p = not (p .decided) && (eqb (p .phase) 1 && not (p .marked))
-
--- 7: "recover of an up process; a suspicion not possible"
-unfoldable pub impossible : Group → Step → Bool
-impossible g (DeliverE i j r c) = false
-impossible g (DeliverS i j r c) = false
-impossible g (DeliverF i j r c) = false
-impossible g (DeliverDecision i j c) = false
-impossible g (Suspect i c) = not (maySuspect (processAt g i))
-impossible g (Pause i) = false
-impossible g (Crash i) = false
-impossible g (Recover i) = processAt g i .up
 
 -- 13: "where a recover would exceed 255"
 unfoldable pub recoversPast : Group → Step → Bool

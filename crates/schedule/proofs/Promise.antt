@@ -11,7 +11,7 @@ use Rattle.rules.specs.Store.{sentIn}
 use Rattle.rules.specs.Answers.{Said}
 use Rattle.rules.specs.Step.{settled, stepped, course}
 use Rattle.rules.specs.Run.{State, startState, next, after, answers}
-use Rattle.rules.specs.Safety.{Begins, at, Of, Holds, sumSent, recoversOf}
+use Rattle.rules.specs.Safety.{Begins, at, Of, Holds, sumSent}
 use Rattle.rules.specs.DepthRun.{DeepState, DeepBegins, forgetting, Longest}
 use Rattle.rules.specs.DepthRun as deep
 use Rattle.rules.specs.declared.group.Group.{Group}

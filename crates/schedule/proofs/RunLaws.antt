@@ -1,12 +1,11 @@
 -- The laws of a run over the lines of a file: what holds while the steps are taken one by one, and what the whole run then is. Assumes nothing.
 use mathlib.Core.Path.{_≡_, refl, sym, ap, ap₂, _∙_, subst}
-use mathlib.Core.Bool.{Bool, true, false, _&&_, not}
+use mathlib.Core.Bool.{Bool, true, false}
 use mathlib.Core.List.{List, [], _∷_}
 use native.Mathlib.Omega.{arith}
-use Prim.Native.Nat.{ℕ, zero, suc, _+_, _-_, _*_, _≤_, _<_}
+use Prim.Native.Nat.{ℕ, _+_, _-_, _*_, _≤_, _<_}
 use lib.Dec.{eqb}
 use lib.ListN.{length, getD}
-use Rattle.rules.specs.Limits.{storeLength}
 use Rattle.rules.specs.Tally.{bitOf}
 use Rattle.rules.specs.Records.{Sized}
 use Rattle.rules.specs.Store.{placeOf, handOver, turned}
@@ -25,7 +24,7 @@ use Rattle.rules.specs.declared.course.Course.the-variants.{Idles, Refuses, Tak
 use Rattle.rules.specs.declared.step.Step.{Step}
 use Rattle.rules.proofs.DeepLaws.{deep-sound-step, deep-sized-step, deep-step-length, depths-step-length}
 use Rattle.schedule.specs.Limits.{mostSteps}
-use Rattle.schedule.specs.Lines.{item, items, linesAt}
+use Rattle.schedule.specs.Lines.{items, linesAt}
 use Rattle.schedule.specs.Line.{lineAt}
 use Rattle.schedule.specs.Counts.{none, isRefused, counted, countedAll}
 use Rattle.schedule.specs.Run.{countsOf}

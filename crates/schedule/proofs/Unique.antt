@@ -2,7 +2,6 @@
 use mathlib.Core.Path.{_≡_, sym, ap, _∙_}
 use mathlib.Core.List.{List}
 use Prim.Native.Nat.{ℕ}
-use Rattle.schedule.specs.Put.{Wrote}
 use Rattle.schedule.specs.Run.{Outcome, Runs}
 use Rattle.schedule.specs.Report.{Reports}
 use Rattle.schedule.specs.declared.run.Ran.{Ran}

@@ -4,16 +4,15 @@ use mathlib.Core.Bool.{Bool, true, false, _||_}
 use mathlib.Core.List.{List, [], _∷_}
 use mathlib.Core.Logic.{_≢_}
 use native.Mathlib.Omega.{arith}
-use native.Mathlib.Decide.{ℕ-discrete}
-use Prim.Native.Nat.{ℕ, zero, suc, _+_, _≤_, _<_}
+use Prim.Native.Nat.{ℕ, suc, _+_, _≤_}
 use lib.Dec.{eqb, ltb}
-use lib.ListN.{length, getD, take}
+use lib.ListN.{length, take}
 use borrow.Author.Tests.{le-ltb, ltb-false, eqb-false, ne-eqb}
 use Rattle.rules.specs.Limits.{greatestSize, storeLength}
 use Rattle.rules.specs.Records.{Sized}
 use Rattle.rules.specs.Refusals.{row, short, miscounted, refusalBy}
 use Rattle.rules.specs.Answers.{Said, saysRefused}
-use Rattle.rules.specs.Depths.{DeepOutcome, outcome, damaged, refusal, startRefusal, unlessRefusedStart, started, stepped}
+use Rattle.rules.specs.Depths.{DeepOutcome, outcome, damaged, refusal, startRefusal, started, stepped}
 use Rattle.rules.specs.DepthRun.{DeepState, stateOf, startState, next, after, answers}
 use Rattle.rules.specs.Parts.{Ready}
 use Rattle.rules.specs.declared.group.Group.{Group}
@@ -21,12 +20,11 @@ use Rattle.rules.specs.declared.step.Step.{Step}
 use Rattle.rules.proofs.BoolLaws.{or-left, or-right}
 use Rattle.rules.proofs.RowLaws.{among-in}
 use Rattle.rules.proofs.DeepLaws.{deep-keeps, deep-sound-step, deep-sized-step, deep-step-length, depths-step-length, Starting, deep-starting}
-use Rattle.schedule.specs.Limits.{mostSteps}
 use Rattle.schedule.specs.Counts.{none, counted, countedAll, refusedAll}
 use Rattle.schedule.specs.Schedule.{Schedule, Reading, faulty, sound, readFile, Fits, noFault}
 use Rattle.schedule.specs.Run.{countsOf, hasRun, notRun, runBy, runOf, begins, between}
 use Rattle.schedule.specs.Run.{outcome as ranTo}
-use Rattle.schedule.specs.Parts.{StepsAt, FormGood, FormCase, FormIs, RunReady, stateWith, RanSteps, RanTo, BothReady, RanBoth, BothRan, SoundRan}
+use Rattle.schedule.specs.Parts.{FormGood, FormCase, FormIs, RunReady, stateWith, RanSteps, RanTo, BothReady, RanBoth, BothRan, SoundRan}
 use Rattle.schedule.specs.declared.counts.Counts.{Counts}
 use Rattle.schedule.specs.declared.file.Fault.{Fault}
 use Rattle.schedule.specs.declared.file.Form.{Form}

@@ -1,7 +1,7 @@
 -- What the parts of the reader and of the run ask and yield, for the contracts of the private functions. No public contract cites this page: a reader may skip it. Assumes nothing.
 use mathlib.Core.Path.{_≡_}
 use mathlib.Core.Bool.{Bool, true, false}
-use mathlib.Core.List.{List, [], _∷_, _++_}
+use mathlib.Core.List.{List}
 use mathlib.Core.Logic.{_≢_}
 use Prim.Native.Nat.{ℕ, _+_, _-_, _*_, _≤_, _<_}
 use lib.Dec.{eqb}
@@ -16,8 +16,8 @@ use Rattle.schedule.specs.Limits.{mostSteps}
 use Rattle.schedule.specs.Number.{pick, numberAt}
 use Rattle.schedule.specs.Lines.{Item, broken, item, Items, brokenAt, items, linesAt}
 use Rattle.schedule.specs.Line.{End, noEnd, ends, nextNumber, lineAt}
-use Rattle.schedule.specs.Schedule.{Schedule, Reading, faulty, sound, valuesFrom, warmupFrom, measuredFrom, readFile, partAt, noPart, part, Part, noFault}
-use Rattle.schedule.specs.Run.{countsOf, Outcome, outcome, runBy}
+use Rattle.schedule.specs.Schedule.{Schedule, faulty, sound, valuesFrom, warmupFrom, readFile, partAt, noPart, part, noFault}
+use Rattle.schedule.specs.Run.{countsOf, outcome, runBy}
 use Rattle.schedule.specs.declared.number.Number.{Number}
 use Rattle.schedule.specs.declared.line.Read.{Read}
 use Rattle.schedule.specs.declared.line.Taken.{Taken}

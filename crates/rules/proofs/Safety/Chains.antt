@@ -28,7 +28,7 @@ use Rattle.rules.specs.Run.{State}
 use Rattle.rules.specs.Run as run
 use Rattle.rules.specs.Safety.{Of}
 use Rattle.rules.specs.Safety as safety
-use Rattle.rules.specs.DepthRun.{DeepState, startState, next, after, DeepBegins, at, depthOf, messageDepth, applied, forgetting, senderOf, Taken, Chain, Ends, DepthIsLongest}
+use Rattle.rules.specs.DepthRun.{DeepState, startState, next, after, DeepBegins, at, processDepth, messageDepth, applied, forgetting, senderOf, Taken, Chain, Ends, DepthIsLongest}
 use Rattle.rules.specs.DepthRun.Chain.{one, more}
 use Rattle.rules.proofs.StoreLaws.{opened-sent}
 use Rattle.rules.proofs.SoundLaws.{taker-in}
@@ -101,58 +101,58 @@ heard-or a s = go (delivers s) refl (applied a s) refl (idle (a .group) s) refl
 
 module _ (vs : List ℕ) (a : DeepState) (h : DeepBasic vs a) (s : Step) (i : ℕ) (low : 1 ≤ i) where
   -- process i hears the step, or its depth stays
-  pub depth-cases : (Heard a s × (takerOf s ≡ i)) ⊎ (depthOf (next a s) i ≡ depthOf a i)
+  pub depth-cases : (Heard a s × (takerOf s ≡ i)) ⊎ (processDepth (next a s) i ≡ processDepth a i)
   depth-cases = go (heard-or a s) (ℕ-discrete (takerOf s) i)
     where
-      go : Heard a s ⊎ (Heard a s → ⊥) → Dec (takerOf s ≡ i) → (Heard a s × (takerOf s ≡ i)) ⊎ (depthOf (next a s) i ≡ depthOf a i)
+      go : Heard a s ⊎ (Heard a s → ⊥) → Dec (takerOf s ≡ i) → (Heard a s × (takerOf s ≡ i)) ⊎ (processDepth (next a s) i ≡ processDepth a i)
       go (inl e) (yes f) = inl (e, f)
       go (inl e) (no f) = inr (depth-unheard vs a h s i low (λ k. f))
       go (inr e) f = inr (depth-unheard vs a h s i low (λ k. absurd (e k)))
 
   -- the depth where it does
-  pub depth-own : Heard a s → takerOf s ≡ i → depthOf (next a s) i ≡ max (depthOf a i) (messageDepth a (slotOf s) + 1)
+  pub depth-own : Heard a s → takerOf s ≡ i → processDepth (next a s) i ≡ max (processDepth a i) (messageDepth a (slotOf s) + 1)
   depth-own e f =
-      ap (depthOf (next a s)) (sym f) ∙ depth-heard vs a h s e ∙ ap (λ (j : ℕ). max (depthOf a j) (messageDepth a (slotOf s) + 1)) f
+      ap (processDepth (next a s)) (sym f) ∙ depth-heard vs a h s e ∙ ap (λ (j : ℕ). max (processDepth a j) (messageDepth a (slotOf s) + 1)) f
 
   -- it never falls
-  never-falls : depthOf a i ≤ depthOf (next a s) i
+  never-falls : processDepth a i ≤ processDepth (next a s) i
   never-falls = go depth-cases
     where
-      go : (Heard a s × (takerOf s ≡ i)) ⊎ (depthOf (next a s) i ≡ depthOf a i) → depthOf a i ≤ depthOf (next a s) i
+      go : (Heard a s × (takerOf s ≡ i)) ⊎ (processDepth (next a s) i ≡ processDepth a i) → processDepth a i ≤ processDepth (next a s) i
       go (inl e) = omega (arith, depth-own (e .0) (e .1))
       go (inr e) = omega (arith, e)
 
 -- nor through any steps
-never-falls-after : (vs : List ℕ) (a : DeepState) (ss : List Step) (i : ℕ) → DeepBasic vs a → 1 ≤ i → depthOf a i ≤ depthOf (after a ss) i
+never-falls-after : (vs : List ℕ) (a : DeepState) (ss : List Step) (i : ℕ) → DeepBasic vs a → 1 ≤ i → processDepth a i ≤ processDepth (after a ss) i
 never-falls-after vs a ss i h lo =
-    deep-throughout vs (λ (c : DeepState). depthOf a i ≤ depthOf c i) (λ c s k le. le-trans le (never-falls vs c k s i lo)) a ss h (omega arith)
+    deep-throughout vs (λ (c : DeepState). processDepth a i ≤ processDepth c i) (λ c s k le. le-trans le (never-falls vs c k s i lo)) a ss h (omega arith)
 
 -- ---- from one delivery of a chain to the next
 
 -- a message that a step first hands over has the depth of its sender, a process of the run
 first-deep : (vs : List ℕ) (a : DeepState) → DeepBasic vs a → (s t : Step) → Addresses t
     → getD (a .store) (slotOf t) 0 ≡ 0 → getD (next a s .store) (slotOf t) 0 ≢ 0
-    → Of vs (senderOf t) × (messageDepth (next a s) (slotOf t) ≡ depthOf (next a s) (senderOf t))
+    → Of vs (senderOf t) × (messageDepth (next a s) (slotOf t) ≡ processDepth (next a s) (senderOf t))
 first-deep vs a h s t ad z ne =
     let f = message-new vs a h s (slotOf t) z ne in
     let e = handed-sender vs a h s t ad (f .0) in
-    (record { low = omega (arith, f .0 .low, e); high = omega (arith, f .0 .high, deep-size vs a h, e) }, f .1 ∙ ap (depthOf (next a s)) (sym e))
+    (record { low = omega (arith, f .0 .low, e); high = omega (arith, f .0 .high, deep-size vs a h, e) }, f .1 ∙ ap (processDepth (next a s)) (sym e))
 
 -- the depth of the sender of the message that t delivers is at least k, and so is that of the message where it is sent
 record AtLeast (t : Step) (k : ℕ) (a : DeepState) : Type 0 where
-  sender : k ≤ depthOf a (senderOf t)
+  sender : k ≤ processDepth a (senderOf t)
   message : getD (a .store) (slotOf t) 0 ≢ 0 → k ≤ messageDepth a (slotOf t)
 
 module _ (vs : List ℕ) (a : DeepState) (h : DeepBasic vs a) (s t : Step) (k : ℕ) (ad : Addresses t) where
   -- where the message was not sent before the step
-  at-least-new : k ≤ depthOf (next a s) (senderOf t) → getD (a .store) (slotOf t) 0 ≡ 0 → AtLeast t k (next a s)
+  at-least-new : k ≤ processDepth (next a s) (senderOf t) → getD (a .store) (slotOf t) 0 ≡ 0 → AtLeast t k (next a s)
   at-least-new le z = record { sender = le; message = λ ne. omega (arith, first-deep vs a h s t ad z ne .1) }
 
   -- every step keeps it
   at-least-next : 1 ≤ senderOf t → AtLeast t k a → AtLeast t k (next a s)
   at-least-next low c = record { sender = sender; message = λ ne. go ne (ℕ-discrete (getD (a .store) (slotOf t) 0) 0) }
     where
-      sender : k ≤ depthOf (next a s) (senderOf t)
+      sender : k ≤ processDepth (next a s) (senderOf t)
       sender = le-trans (c .sender) (never-falls vs a h s (senderOf t) low)
 
       go : getD (next a s .store) (slotOf t) 0 ≢ 0 → Dec (getD (a .store) (slotOf t) 0 ≡ 0) → k ≤ messageDepth (next a s) (slotOf t)
@@ -200,8 +200,8 @@ module _ (vs l d : List ℕ) (b : DeepBegins vs l d) where
 
   -- one delivery more
   one-more : (ts us ws : List Step) (s t : Step) (k : ℕ) → ws ≡ ts ++ (s ∷ us) → Taken vs l ts s → Taken vs l ws t → senderOf t ≡ takerOf s
-      → entryIn (safety.at vs l ts .store) t ≡ 0 → k ≤ depthOf (next (at vs l d ts) s) (takerOf s)
-      → k + 1 ≤ depthOf (next (at vs l d ws) t) (takerOf t)
+      → entryIn (safety.at vs l ts .store) t ≡ 0 → k ≤ processDepth (next (at vs l d ts) s) (takerOf s)
+      → k + 1 ≤ processDepth (next (at vs l d ws) t) (takerOf t)
   unfolding entryIn
   one-more ts us ws s t k e before tk sender z le =
       let a = at vs l d ts in
@@ -212,27 +212,27 @@ module _ (vs l d : List ℕ) (b : DeepBegins vs l d) where
       let ad = heard-addresses vs w hw t heard in
       let low : 1 ≤ senderOf t = omega (arith, sender, applied-taker a s (taken-heard ts s before .taken) .0) in
       let first =
-      at-least-new vs a h s t k ad (omega (arith, le, ap (depthOf (next a s)) sender)) (ap (λ (m : List ℕ). getD m (slotOf t) 0) (same-store ts) ∙ z) in
+      at-least-new vs a h s t k ad (omega (arith, le, ap (processDepth (next a s)) sender)) (ap (λ (m : List ℕ). getD m (slotOf t) 0) (same-store ts) ∙ z) in
       let onward : AtLeast t k (after (next a s) us) =
       deep-throughout vs (AtLeast t k) (λ c u hc. at-least-next vs c hc u t k ad low) (next a s) us (deep-next vs a h s) first in
       let there : AtLeast t k w = subst (AtLeast t k) (sym (ap (at vs l d) e ∙ at-more ts us s)) onward in
       omega (arith, depth-heard vs w hw t heard, there .message (heard-sent w t heard))
 
-  chain-most : {ts : List Step} {s : Step} {k : ℕ} → Chain vs l ts s k → k ≤ depthOf (next (at vs l d ts) s) (takerOf s)
+  chain-most : {ts : List Step} {s : Step} {k : ℕ} → Chain vs l ts s k → k ≤ processDepth (next (at vs l d ts) s) (takerOf s)
   chain-most {ts} {s} (one t) = omega (arith, depth-heard vs (at vs l d ts) (deep-basic vs l d ts b) s (taken-heard ts s t))
   chain-most (more {ts} {ws} {s} {t} {k} us c e tk sender z) = one-more ts us ws s t k e (chain-taken c) tk sender z (chain-most c)
 
   -- from its last delivery on
-  ends-most : (ss : List Step) (i k : ℕ) → Of vs i → Ends vs l ss i k → k ≤ depthOf (at vs l d ss) i
+  ends-most : (ss : List Step) (i k : ℕ) → Of vs i → Ends vs l ss i k → k ≤ processDepth (at vs l d ss) i
   ends-most ss i k o e =
       let a = at vs l d (e .before) in
       let h = deep-basic vs l d (e .before) b in
       omega (
         arith,
         chain-most (e .chain),
-        ap (depthOf (next a (e .last))) (e .taker),
+        ap (processDepth (next a (e .last))) (e .taker),
         never-falls-after vs (next a (e .last)) (e .later) i (deep-next vs a h (e .last)) (o .low),
-        ap (λ (c : DeepState). depthOf c i) (ap (at vs l d) (e .steps) ∙ at-more (e .before) (e .later) (e .last)),
+        ap (λ (c : DeepState). processDepth c i) (ap (at vs l d) (e .steps) ∙ at-more (e .before) (e .later) (e .last)),
       )
 
   -- ---- a chain of that length
@@ -244,7 +244,7 @@ module _ (vs l d : List ℕ) (b : DeepBegins vs l d) where
 
   -- the depths of the state a, after the steps ss, are lengths of chains
   record Told (ss : List Step) (a : DeepState) : Type 0 where
-    processes : (i : ℕ) → Of vs i → depthOf a i ≢ 0 → Ends vs l ss i (depthOf a i)
+    processes : (i : ℕ) → Of vs i → processDepth a i ≢ 0 → Ends vs l ss i (processDepth a i)
     messages : (t : Step) → Addresses t → getD (a .store) (slotOf t) 0 ≢ 0 → messageDepth a (slotOf t) ≢ 0 → Carries ss t (messageDepth a (slotOf t))
 
   -- what is not sent in the run with depths is not in the run without them
@@ -304,27 +304,27 @@ module _ (vs l d : List ℕ) (b : DeepBegins vs l d) where
     abbrev Either : ℕ → ℕ → Type 0
     Either i k = (Chain vs l ss s k × (takerOf s ≡ i)) ⊎ Ends vs l ss i k
 
-    ends-either : (i : ℕ) → Of vs i → depthOf (next a s) i ≢ 0 → Either i (depthOf (next a s) i)
+    ends-either : (i : ℕ) → Of vs i → processDepth (next a s) i ≢ 0 → Either i (processDepth (next a s) i)
     ends-either i o ne = go (depth-cases vs a h s i (o .low))
       where
-        old : depthOf (next a s) i ≡ depthOf a i → Ends vs l ss i (depthOf (next a s) i)
+        old : processDepth (next a s) i ≡ processDepth a i → Ends vs l ss i (processDepth (next a s) i)
         old e = subst (Ends vs l ss i) (sym e) (told .processes i o (λ z. ne (e ∙ z)))
 
-        by : Heard a s → takerOf s ≡ i → Dec (depthOf (next a s) i ≡ depthOf a i) → Either i (depthOf (next a s) i)
+        by : Heard a s → takerOf s ≡ i → Dec (processDepth (next a s) i ≡ processDepth a i) → Either i (processDepth (next a s) i)
         by e f (yes same) = inr (old same)
         by e f (no rose) =
-            let k : messageDepth a (slotOf s) + 1 ≡ depthOf (next a s) i = omega (arith, depth-own vs a h s i (o .low) e f, rose) in
+            let k : messageDepth a (slotOf s) + 1 ≡ processDepth (next a s) i = omega (arith, depth-own vs a h s i (o .low) e f, rose) in
             inl (subst (Chain vs l ss s) k (heard-chain e), f)
 
-        go : (Heard a s × (takerOf s ≡ i)) ⊎ (depthOf (next a s) i ≡ depthOf a i) → Either i (depthOf (next a s) i)
-        go (inl e) = by (e .0) (e .1) (ℕ-discrete (depthOf (next a s) i) (depthOf a i))
+        go : (Heard a s × (takerOf s ≡ i)) ⊎ (processDepth (next a s) i ≡ processDepth a i) → Either i (processDepth (next a s) i)
+        go (inl e) = by (e .0) (e .1) (ℕ-discrete (processDepth (next a s) i) (processDepth a i))
         go (inr e) = inr (old e)
 
     told-next : Told (ss ++ (s ∷ [])) (next a s)
     unfolding longer now
     told-next =
         record {
-          processes = λ i o ne. ends i (depthOf (next a s) i) (ends-either i o ne);
+          processes = λ i o ne. ends i (processDepth (next a s) i) (ends-either i o ne);
           messages = λ t ad ne nz. carries t ad ne nz (ℕ-discrete (getD (a .store) (slotOf t) 0) 0);
         }
       where
@@ -346,7 +346,7 @@ module _ (vs l d : List ℕ) (b : DeepBegins vs l d) where
         carries t ad ne nz (yes z) =
             let f = first-deep vs a h s t ad z ne in
             subst (Carries (ss ++ (s ∷ [])) t) (sym (f .1))
-            (follows t (depthOf (next a s) (senderOf t)) ad z (ends-either (senderOf t) (f .0) (λ y. nz (f .1 ∙ y))))
+            (follows t (processDepth (next a s) (senderOf t)) ad z (ends-either (senderOf t) (f .0) (λ y. nz (f .1 ∙ y))))
         carries t ad ne nz (no sent) =
             let e = message-kept vs a h s (slotOf t) sent in
             let c = told .messages t ad sent (λ z. nz (e ∙ z)) in
@@ -361,7 +361,7 @@ module _ (vs l d : List ℕ) (b : DeepBegins vs l d) where
       ap (λ (c : DeepState). sentIn (c .store) storeLength) (start-deep vs l d b) ∙ opened-sent (getD vs 0 0) l (b .begins .long) in
       record {
         processes = λ i o ne.
-            absurd (ne (ap (λ (c : DeepState). depthOf c i) (start-deep vs l d b)
+            absurd (ne (ap (λ (c : DeepState). processDepth c i) (start-deep vs l d b)
             ∙ depth-started vs (length vs) i (b .begins .few) (le-trans (o .high) (b .begins .few))));
         messages = λ t ad ne nz. absurd (nz (omega (arith, deep-start vs l d b .messages (slotOf t) (address-lt t ad), sent)));
       }

@@ -1,11 +1,10 @@
 -- What changes no depth: being down and recovering, a pause, a crash, a suspicion; and a cut leaves the depth of the same step uncut. Assumes nothing.
 use mathlib.Core.Path.{_≡_, refl, sym, ap, subst, _∙_}
-use mathlib.Core.Bool.{Bool, true, false, _&&_, not}
+use mathlib.Core.Bool.{Bool, true, false, not}
 use mathlib.Core.List.{List, [], _∷_}
-use mathlib.Core.Logic.{_≢_, _⊎_, inl, inr}
+use mathlib.Core.Logic.{_⊎_, inl, inr}
 use Prim.Native.Nat.{ℕ, zero, suc, _+_, _≤_, max}
 use native.Mathlib.Omega.{arith}
-use lib.ListN.{length}
 use borrow.Author.Tests.{not-false}
 use Rattle.rules.specs.declared.group.Group.{Group}
 use Rattle.rules.specs.declared.process.Process.{Process}
@@ -13,22 +12,20 @@ use Rattle.rules.specs.declared.step.Step.{Step}
 use Rattle.rules.specs.declared.step.Step.the-variants.{DeliverE, DeliverS, DeliverF, DeliverDecision, Suspect, Pause, Crash, Recover}
 use Rattle.rules.specs.Limits.{greatestSize}
 use Rattle.rules.specs.Records.{processAt}
-use Rattle.rules.specs.Events.{cutIf}
 use Rattle.rules.specs.Steps.{takerOf, numbersOf, roundOf, delivers, slotOf, isCut, entryIn, eventOf}
 use Rattle.rules.specs.Idle.{idle}
 use Rattle.rules.specs.Refusals.{strange, late, isRecover, down, unsent, misnamed, impossible, recoversPast, entersPast, refusalBy}
 use Rattle.rules.specs.Step.{orIdle, unlessRefused}
 use Rattle.rules.specs.Step as base
-use Rattle.rules.specs.Depths.{depthIn, tooDeep, refusal, course, settled, stepped}
+use Rattle.rules.specs.Depths.{deliveredDepth, tooDeep, refusal, course, settled, stepped}
 use Rattle.rules.specs.Run.{State}
-use Rattle.rules.specs.Run as run
-use Rattle.rules.specs.Safety.{Of, DownThrough, cut}
-use Rattle.rules.specs.DepthRun.{DeepState, next, after, at, depthOf, messageDepth, applied, forgotten, DepthRecovery, GoingDownKeepsDepth, CutKeepsDepth}
+use Rattle.rules.specs.Safety.{DownThrough, cut}
+use Rattle.rules.specs.DepthRun.{DeepState, next, after, at, processDepth, messageDepth, applied, forgotten, DepthRecovery, GoingDownKeepsDepth, CutKeepsDepth}
 use Rattle.rules.proofs.ForgetLaws.{process-forgets}
 use Rattle.rules.proofs.Safety.Cases.{never}
 use Rattle.rules.proofs.Safety.Depths.{DeepBasic, deep-basic, deep-basic-after, deep-next, next-forgets, depths-change-nothing}
 use Rattle.rules.proofs.Safety.DepthSteps.{Heard, depth-unheard}
-use Rattle.rules.proofs.Safety.Chains.{applied-passed, rest-false, heard-or, depth-cases, depth-own}
+use Rattle.rules.proofs.Safety.Chains.{applied-passed, rest-false, depth-cases, depth-own}
 
 -- ---- being down
 
@@ -51,13 +48,13 @@ heard-up a s e =
     (rest-false (not (isRecover s)) (not (processAt (a .group) (takerOf s) .up)) (ap not (no-recover s (e .delivery))) (applied-passed a s (e .taken) .up))
 
 -- so a step leaves the depth of one that is down
-down-next : (vs : List ℕ) (a : DeepState) (s : Step) (i : ℕ) → DeepBasic vs a → 1 ≤ i → processAt (a .group) i .up ≡ false → depthOf (next a s) i ≡ depthOf a i
+down-next : (vs : List ℕ) (a : DeepState) (s : Step) (i : ℕ) → DeepBasic vs a → 1 ≤ i → processAt (a .group) i .up ≡ false → processDepth (next a s) i ≡ processDepth a i
 down-next vs a s i h lo d =
     depth-unheard vs a h s i lo (λ e f. never d (ap (λ (k : ℕ). processAt (a .group) k .up) (sym f) ∙ heard-up a s e))
 
 -- and so do many, while it stays down
 down-after : (vs : List ℕ) (a : DeepState) (ts : List Step) (i : ℕ) → DeepBasic vs a → 1 ≤ i → i ≤ greatestSize → DownThrough (forgotten a) ts i
-    → depthOf (after a ts) i ≡ depthOf a i
+    → processDepth (after a ts) i ≡ processDepth a i
 unfolding after DownThrough
 down-after vs a [] i h lo hi d = refl
 down-after vs a (s ∷ ts) i h lo hi d =
@@ -66,7 +63,7 @@ down-after vs a (s ∷ ts) i h lo hi d =
 
 -- ---- steps that deliver nothing
 
-quiet-next : (vs : List ℕ) (a : DeepState) (s : Step) (i : ℕ) → DeepBasic vs a → 1 ≤ i → delivers s ≡ false → depthOf (next a s) i ≡ depthOf a i
+quiet-next : (vs : List ℕ) (a : DeepState) (s : Step) (i : ℕ) → DeepBasic vs a → 1 ≤ i → delivers s ≡ false → processDepth (next a s) i ≡ processDepth a i
 quiet-next vs a s i h lo e = depth-unheard vs a h s i lo (λ k. never e (k .delivery))
 
 pub depth-recovery : DepthRecovery
@@ -114,7 +111,7 @@ record CutSame (g : Group) (l d : List ℕ) (s : Step) : Type 0 where
   place : slotOf (cut s) ≡ slotOf s
 
 cut-same : (g : Group) (l d : List ℕ) (s : Step) → CutSame g l d s
-unfolding cut delivers refusal refusalBy tooDeep depthIn strange numbersOf late roundOf down isRecover takerOf unsent entryIn slotOf misnamed impossible recoversPast entersPast idle eventOf
+unfolding cut delivers refusal refusalBy tooDeep deliveredDepth strange numbersOf late roundOf down isRecover takerOf unsent entryIn slotOf misnamed impossible recoversPast entersPast idle eventOf
 cut-same g l d (DeliverE i j r c) = record { delivery = refl; number = refl; idleness = refl; taker = refl; place = refl }
 cut-same g l d (DeliverS i j r c) = record { delivery = refl; number = refl; idleness = refl; taker = refl; place = refl }
 cut-same g l d (DeliverF i j r c) = record { delivery = refl; number = refl; idleness = refl; taker = refl; place = refl }
@@ -145,18 +142,18 @@ module _ (vs : List ℕ) (a : DeepState) (h : DeepBasic vs a) (s : Step) where
         not-idle = sym (same .idleness) ∙ e .not-idle;
       }
 
-  cut-depth : (i : ℕ) → 1 ≤ i → depthOf (next a (cut s)) i ≡ depthOf (next a s) i
+  cut-depth : (i : ℕ) → 1 ≤ i → processDepth (next a (cut s)) i ≡ processDepth (next a s) i
   cut-depth i lo = go (depth-cases vs a h s i lo) (depth-cases vs a h (cut s) i lo)
     where
-      go : (Heard a s × (takerOf s ≡ i)) ⊎ (depthOf (next a s) i ≡ depthOf a i)
-          → (Heard a (cut s) × (takerOf (cut s) ≡ i)) ⊎ (depthOf (next a (cut s)) i ≡ depthOf a i)
-          → depthOf (next a (cut s)) i ≡ depthOf (next a s) i
+      go : (Heard a s × (takerOf s ≡ i)) ⊎ (processDepth (next a s) i ≡ processDepth a i)
+          → (Heard a (cut s) × (takerOf (cut s) ≡ i)) ⊎ (processDepth (next a (cut s)) i ≡ processDepth a i)
+          → processDepth (next a (cut s)) i ≡ processDepth (next a s) i
       go (inl e) f =
           depth-own vs a h (cut s) i lo (heard-cut (e .0)) (same .taker ∙ e .1)
-          ∙ ap (λ (k : ℕ). max (depthOf a i) (messageDepth a k + 1)) (same .place) ∙ sym (depth-own vs a h s i lo (e .0) (e .1))
+          ∙ ap (λ (k : ℕ). max (processDepth a i) (messageDepth a k + 1)) (same .place) ∙ sym (depth-own vs a h s i lo (e .0) (e .1))
       go (inr e) (inr f) = f ∙ sym e
       go (inr e) (inl f) =
-          depth-own vs a h (cut s) i lo (f .0) (f .1) ∙ ap (λ (k : ℕ). max (depthOf a i) (messageDepth a k + 1)) (same .place)
+          depth-own vs a h (cut s) i lo (f .0) (f .1) ∙ ap (λ (k : ℕ). max (processDepth a i) (messageDepth a k + 1)) (same .place)
           ∙ sym (depth-own vs a h s i lo (cut-heard (f .0)) (sym (same .taker) ∙ f .1))
 
 pub cut-keeps-depth : CutKeepsDepth

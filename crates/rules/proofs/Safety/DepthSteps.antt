@@ -2,7 +2,7 @@
 use mathlib.Core.Path.{_≡_, refl, sym, ap, subst, _∙_}
 use mathlib.Core.Bool.{Bool, true, false, _&&_, not}
 use mathlib.Core.List.{List}
-use mathlib.Core.Logic.{_≢_, _⊎_, inl, inr}
+use mathlib.Core.Logic.{_≢_}
 use Prim.Native.Nat.{ℕ, zero, suc, _+_, _≤_, _<_, max}
 use native.Mathlib.Decide.{ℕ-discrete}
 use native.Mathlib.Omega.{arith}
@@ -10,7 +10,6 @@ use lib.Dec.{eqb}
 use lib.ListN.{length, getD, set}
 use borrow.Author.Tests.{eq-eqb}
 use Rattle.rules.specs.declared.group.Group.{Group}
-use Rattle.rules.specs.declared.process.Process.{Process}
 use Rattle.rules.specs.declared.process.Message.{Message}
 use Rattle.rules.specs.declared.process.Message.the-variants.{Nothing, E, S, F, Decision}
 use Rattle.rules.specs.declared.process.Next.{Next}
@@ -20,19 +19,19 @@ use Rattle.rules.specs.declared.course.Course.{Course}
 use Rattle.rules.specs.declared.course.Course.the-variants.{Idles, Refuses, Takes}
 use Rattle.rules.specs.Limits.{greatestSize, lastRound, storeLength}
 use Rattle.rules.specs.Records.{processAt, withProcess, depthAt, withDepth}
-use Rattle.rules.specs.Store.{placeOf, messageRound, entryFor, handOver, turned}
+use Rattle.rules.specs.Store.{placeOf, messageRound, entryFor, handOver}
 use Rattle.rules.specs.Events.{onCrash, cutIf}
 use Rattle.rules.specs.Steps.{takerOf, delivers, slotOf, isCut, eventOf}
 use Rattle.rules.specs.Idle.{idle}
 use Rattle.rules.specs.Step.{idles, orIdle, unlessRefused, handOvers}
 use Rattle.rules.specs.Step as base
-use Rattle.rules.specs.Depths.{depthIn, raises, raised, depthAfter, datedIf, dated, datedBoth, refusal, course, deepened, datedBy, settled, stepped}
+use Rattle.rules.specs.Depths.{deliveredDepth, raises, raised, depthAfter, datedIf, dated, datedBoth, refusal, course, deepened, datedBy, settled, stepped}
 use Rattle.rules.specs.Run.{Handed, handed}
 use Rattle.rules.specs.Safety.{Delivers}
-use Rattle.rules.specs.DepthRun.{DeepState, next, depthOf, messageDepth, applied, senderOf}
-use Rattle.rules.proofs.StoreLaws.{IsMessage, place-lt, own, other, handOver-length, handOver-other}
+use Rattle.rules.specs.DepthRun.{DeepState, next, processDepth, messageDepth, applied, senderOf}
+use Rattle.rules.proofs.StoreLaws.{IsMessage, place-lt, own, other}
 use Rattle.rules.proofs.GroupLaws.{sized-with}
-use Rattle.rules.proofs.SoundLaws.{named-entry, Named, Taking, Fine}
+use Rattle.rules.proofs.SoundLaws.{named-entry, Taking, Fine}
 use Rattle.rules.proofs.DepthLaws.{DeepPassed, deep-passed, dating, dated-length}
 use Rattle.rules.proofs.ForgetLaws.{depth-put, depth-kept, depth-with}
 use Rattle.rules.proofs.Safety.Cases.{never, handed-by}
@@ -79,7 +78,7 @@ module _ (vs : List ℕ) (a : DeepState) (h : DeepBasic vs a) (s : Step) where
   d = a .depths
 
   -- the depth of the taker after the step, by what the step is
-  after-heard : delivers s ≡ true → idle g s ≡ false → depthAfter g d s ≡ max (depthAt g (takerOf s)) (depthIn d s + 1)
+  after-heard : delivers s ≡ true → idle g s ≡ false → depthAfter g d s ≡ max (depthAt g (takerOf s)) (deliveredDepth d s + 1)
   unfolding depthAfter raises raised
   after-heard e f = rw (e, f)
 
@@ -97,8 +96,8 @@ module _ (vs : List ℕ) (a : DeepState) (h : DeepBasic vs a) (s : Step) where
       depth-kept (withProcess g (takerOf s) (x .process)) (takerOf s) k i (t .low) lo ne ∙ depth-with g (takerOf s) (x .process) i (t .small)
 
   -- "A delivery that is not idle raises the receiver's depth to the message's depth plus one, if that is more"
-  pub depth-heard : Heard a s → depthOf (next a s) (takerOf s) ≡ max (depthOf a (takerOf s)) (messageDepth a (slotOf s) + 1)
-  unfolding next stepped settled base.settled deepened depthIn
+  pub depth-heard : Heard a s → processDepth (next a s) (takerOf s) ≡ max (processDepth a (takerOf s)) (messageDepth a (slotOf s) + 1)
+  unfolding next stepped settled base.settled deepened deliveredDepth
   depth-heard e =
       deep-by P g l d s (λ f t. never refl t) (λ k f t. never refl t) (λ p i f t. never (e .not-idle) i)
       (λ p i f t. own-depth (cutIf (isCut s) (eventOf g l s)) f (depthAfter g d s) ∙ after-heard (e .delivery) (e .not-idle))
@@ -106,10 +105,10 @@ module _ (vs : List ℕ) (a : DeepState) (h : DeepBasic vs a) (s : Step) where
     where
       P : Course → Type 0
       P c = Fine (g .n) c → base.settled g l c .says .applied ≡ true
-          → depthAt (deepened (depthAfter g d s) c (base.settled g l c .group)) (takerOf s) ≡ max (depthOf a (takerOf s)) (messageDepth a (slotOf s) + 1)
+          → depthAt (deepened (depthAfter g d s) c (base.settled g l c .group)) (takerOf s) ≡ max (processDepth a (takerOf s)) (messageDepth a (slotOf s) + 1)
 
   -- no other step changes it
-  pub depth-unheard : (i : ℕ) → 1 ≤ i → (Heard a s → takerOf s ≢ i) → depthOf (next a s) i ≡ depthOf a i
+  pub depth-unheard : (i : ℕ) → 1 ≤ i → (Heard a s → takerOf s ≢ i) → processDepth (next a s) i ≡ processDepth a i
   unfolding next stepped settled base.settled deepened
   depth-unheard i lo unless =
       deep-by P g l d s (λ f t. refl) (λ k f t. refl)
@@ -141,7 +140,7 @@ module _ (vs : List ℕ) (a : DeepState) (h : DeepBasic vs a) (s : Step) where
 
 -- ---- the depth of a message
 
-module _ (n i : ℕ) (m : Message) (k : ℕ) (l d : List ℕ) where
+module _ (i : ℕ) (m : Message) (k : ℕ) (l d : List ℕ) where
   -- where its entry is sent, the depth at a place stays
   dated-sent : (q : ℕ) → getD l q 0 ≢ 0 → getD (dated i m k l d) q 0 ≡ getD d q 0
   dated-sent q ne =
@@ -198,7 +197,7 @@ module _ (n i : ℕ) (x : Next) (k : ℕ) (l d : List ℕ) (t : Taking n i x) (l
   both-sent q ne =
       let still : getD once q 0 ≢ 0 =
       handed-by (λ (e : ℕ). e ≢ 0) i (x .first) l q (omega (arith, place-lt i (x .first) (t .small) (t .first))) (named-entry n i (x .first) (t .low) (t .first-named)) ne in
-      dated-sent n i (x .second) k once dates q still ∙ dated-sent n i (x .first) k l d q ne
+      dated-sent i (x .second) k once dates q still ∙ dated-sent i (x .first) k l d q ne
 
   both-new : (q : ℕ) → getD l q 0 ≡ 0 → getD (handOvers i x l) q 0 ≢ 0 → HandsOver n i q × (getD (datedBoth i x k l d) q 0 ≡ k)
   unfolding datedBoth handOvers
@@ -209,11 +208,11 @@ module _ (n i : ℕ) (x : Next) (k : ℕ) (l d : List ℕ) (t : Taking n i x) (l
 
       by : Dec (getD once q 0 ≡ 0) → HandsOver n i q × (getD (dated i (x .second) k once dates) q 0 ≡ k)
       by (yes e) =
-          let f = dated-new n i (x .second) k once dates q (omega (arith, place-lt i (x .second) (t .small) (t .second), dated-length i (x .first) k l d)) e ne in
+          let f = dated-new i (x .second) k once dates q (omega (arith, place-lt i (x .second) (t .small) (t .second), dated-length i (x .first) k l d)) e ne in
           (hands (x .second) (t .second) (f .0) (f .1), f .2)
       by (no first) =
-          let f = dated-new n i (x .first) k l d q (omega (arith, place-lt i (x .first) (t .small) (t .first))) z first in
-          (hands (x .first) (t .first) (f .0) (f .1), dated-sent n i (x .second) k once dates q first ∙ f .2)
+          let f = dated-new i (x .first) k l d q (omega (arith, place-lt i (x .first) (t .small) (t .first))) z first in
+          (hands (x .first) (t .first) (f .0) (f .1), dated-sent i (x .second) k once dates q first ∙ f .2)
 
 -- the sender of a delivered message
 delivered-sender : (t : Step) (i : ℕ) (m : Message) → Delivers t (handed i m) → senderOf t ≡ i
@@ -242,7 +241,7 @@ module _ (vs : List ℕ) (a : DeepState) (h : DeepBasic vs a) (s : Step) where
 
   -- "A message first handed over (its entry was 0) gets the sender's depth after the step"
   pub message-new : (q : ℕ) → getD (a .store) q 0 ≡ 0 → getD (next a s .store) q 0 ≢ 0
-      → HandsOver (a .group .n) (takerOf s) q × (messageDepth (next a s) q ≡ depthOf (next a s) (takerOf s))
+      → HandsOver (a .group .n) (takerOf s) q × (messageDepth (next a s) q ≡ processDepth (next a s) (takerOf s))
   unfolding next stepped settled base.settled deepened datedBy
   message-new q z =
       deep-by P (a .group) (a .store) (a .depths) s (λ f ne. absurd (ne z)) (λ k f ne. absurd (ne z))

@@ -7,46 +7,41 @@ use Prim.Native.Nat.{ℕ, zero, suc, _+_, _≤_, _<_}
 use native.Mathlib.Decide.{ℕ-discrete}
 use native.Mathlib.Nat.{le-trans}
 use native.Mathlib.Omega.{arith}
-use lib.Dec.{eqb, ltb}
-use lib.ListN.{length, getD, set, length-set}
-use borrow.Author.Tests.{le-ltb, ltb-false, eqb-true, eqb-false}
+use lib.Dec.{ltb}
+use lib.ListN.{length, getD, set}
+use borrow.Author.Tests.{le-ltb}
 use Rattle.rules.specs.declared.group.Group.{Group}
 use Rattle.rules.specs.declared.process.Process.{Process}
 use Rattle.rules.specs.declared.process.Message.{Message}
-use Rattle.rules.specs.declared.process.Message.the-variants.{Nothing, E, S, F, Decision}
 use Rattle.rules.specs.declared.process.Next.{Next}
 use Rattle.rules.specs.declared.step.Step.{Step}
 use Rattle.rules.specs.declared.course.Course.{Course}
 use Rattle.rules.specs.declared.course.Course.the-variants.{Idles, Refuses, Takes}
-use Rattle.rules.specs.Limits.{greatestSize, lastRound, storeLength, deepestMessage, deepestProcess, among}
-use Rattle.rules.specs.Tally.{bitOf}
+use Rattle.rules.specs.Limits.{greatestSize, storeLength, deepestMessage, among}
 use Rattle.rules.specs.Records.{processAt, withProcess, depthAt, withDepth, Sized}
-use Rattle.rules.specs.Store.{placeOf, messageRound, handOver, turned, cleared, sentBit, sentIn}
+use Rattle.rules.specs.Store.{placeOf, handOver, turned, cleared, sentIn}
 use Rattle.rules.specs.Answers.{Said, saysApplied}
 use Rattle.rules.specs.Steps.{takerOf, numbersOf, delivers, slotOf, isCut, eventOf}
 use Rattle.rules.specs.Idle.{idle}
 use Rattle.rules.specs.Refusals.{row, every, short, miscounted, strange, late, refusalBy}
 use Rattle.rules.specs.Refusals as table
-use Rattle.rules.specs.Start.{startedTo, firstMessage, begun}
+use Rattle.rules.specs.Start.{firstMessage, begun}
 use Rattle.rules.specs.Step.{idles, orIdle, unlessRefused, handOvers, sentBy, decidesNow}
 use Rattle.rules.specs.Step as base
 use Rattle.rules.specs.Parts.{numberRows, Ready}
-use Rattle.rules.specs.Depths.{depthIn, raises, raised, depthAfter, datedIf, dated, datedBoth, damaged, tooDeep, refusal, DeepOutcome, opened, unlessRefusedStart, startRefusal, started, course, deepened, datedBy, settled, stepped}
+use Rattle.rules.specs.Depths.{deliveredDepth, raises, raised, depthAfter, dated, datedBoth, damaged, tooDeep, refusal, opened, unlessRefusedStart, startRefusal, started, course, deepened, datedBy, settled, stepped}
 use Rattle.rules.specs.Run.{State}
 use Rattle.rules.specs.Run as run
-use Rattle.rules.specs.Safety.{Begins, Of}
 use Rattle.rules.specs.Safety as safety
-use Rattle.rules.specs.DepthRun.{DeepState, stateOf, startState, next, after, answers, DeepBegins, at, depthOf, messageDepth, EveryRun, forgetting, forgotten, DepthsChangeNothing, AnswersStay, DepthsFit, NeverFourteen, PastDepthsKept}
-use Rattle.rules.proofs.BoolLaws.{and-left, and-right}
-use Rattle.rules.proofs.StoreLaws.{IsMessage, place-lt, own, other, handOver-length, handOver-past, opened-sent, opened-length, cleared-length, cleared-below, cleared-past}
+use Rattle.rules.specs.DepthRun.{DeepState, stateOf, startState, next, after, answers, DeepBegins, at, processDepth, messageDepth, forgetting, forgotten, DepthsChangeNothing, AnswersStay, DepthsFit, NeverFourteen, PastDepthsKept}
+use Rattle.rules.proofs.StoreLaws.{place-lt, own, other, opened-sent, cleared-length, cleared-below, cleared-past}
 use Rattle.rules.proofs.RowLaws.{among-in}
-use Rattle.rules.proofs.GroupLaws.{with-size, sized-with, sized-started, started-size}
-use Rattle.rules.proofs.SoundLaws.{Whole, Sound, sound-facts, facts-sound, Taking, Fine, course-fine, overs-sent}
-use Rattle.rules.proofs.DepthLaws.{facts-deep, deep-sound, DeepPassed, course-takes, dating, dated-length, dated-other}
-use Rattle.rules.proofs.ForgetLaws.{process-deep, depth-put, depth-kept, sized-deep, depth-with, process-forgets, sized-forgets, depth-forgets, forget-with, forget-deep, forget-started, depth-started}
+use Rattle.rules.proofs.GroupLaws.{sized-with, sized-started, started-size}
+use Rattle.rules.proofs.SoundLaws.{Whole, Sound, sound-facts, Fine, course-fine, overs-sent}
+use Rattle.rules.proofs.DepthLaws.{facts-deep, deep-sound, course-takes, dating, dated-length, dated-other}
+use Rattle.rules.proofs.ForgetLaws.{depth-put, depth-kept, sized-deep, depth-with, process-forgets, depth-forgets, forget-with, forget-deep, forget-started, depth-started}
 use Rattle.rules.proofs.CourseLaws.{numbers-refuse, held-course, taker-low, place-low}
-use Rattle.rules.proofs.Safety.Basics.{Basic, basic, basic-start, basic-next, not-refused, start-is}
-use Rattle.rules.proofs.Safety.Cases.{never}
+use Rattle.rules.proofs.Safety.Basics.{Basic, basic, basic-start, basic-next, start-is}
 use Rattle.rules.proofs.Safety.Sound.{never-two-nor-eleven}
 
 -- ---- one message that is dated
@@ -77,7 +72,7 @@ pub record DeepBasic (vs : List ℕ) (a : DeepState) : Type 0 where
   pub sized : Sized (a .group)
   pub deep-long : storeLength ≤ length (a .depths)
   pub messages : (k : ℕ) → k < storeLength → messageDepth a k + 1 ≤ sentIn (a .store) storeLength
-  pub processes : (i : ℕ) → 1 ≤ i → i ≤ a .group .n → depthOf a i ≤ sentIn (a .store) storeLength
+  pub processes : (i : ℕ) → 1 ≤ i → i ≤ a .group .n → processDepth a i ≤ sentIn (a .store) storeLength
 
 -- the rows of the table do not look past 3 and 4 where one of them refuses
 rows-same : (t u w : Bool) (g : Group) (l : List ℕ) (s : Step) → (numberRows (g .n) s ≡ 0 → w ≡ false) → refusalBy t u w g l s ≡ refusalBy t u false g l s
@@ -131,7 +126,7 @@ module _ (vs : List ℕ) (a : DeepState) (h : DeepBasic vs a) where
 
   -- no delivered message is too deep
   pub not-deep : (s : Step) → numberRows (a .group .n) s ≡ 0 → tooDeep (a .depths) s ≡ false
-  unfolding tooDeep depthIn
+  unfolding tooDeep deliveredDepth
   not-deep s z =
       let lt = place-low (a .group .n) s deep-few z in
       let le : getD (a .depths) (slotOf s) 0 ≤ deepestMessage = omega (arith, h .messages (slotOf s) lt, sent-most (a .store) storeLength) in
@@ -277,7 +272,7 @@ module _ (vs : List ℕ) (a : DeepState) (h : DeepBasic vs a) (s : Step) where
 
   -- the depth that a process gets from a step that it takes
   after-most : (i : ℕ) (x : Next) → course (a .group) (a .store) (a .depths) s ≡ Takes i x → depthAfter (a .group) (a .depths) s ≤ sentIn (a .store) storeLength
-  unfolding depthAfter depthIn numberRows strange row
+  unfolding depthAfter deliveredDepth numberRows strange row
   after-most i x e =
       let t = course-takes (a .group) (a .store) (a .depths) s e in
       let numbers : numberRows (a .group .n) s ≡ 0 = rw (t .1 .known, t .1 .early) in

@@ -34,7 +34,7 @@ use Rattle.rules.specs.Step as base
 use Rattle.rules.specs.Depths.{depthAfter, refusal, course, deepened, datedBy, settled, stepped}
 use Rattle.rules.specs.Run.{State}
 use Rattle.rules.specs.Run as run
-use Rattle.rules.specs.DepthRun.{DeepState, stateOf, startState, next, after, DeepBegins, at, depthOf, messageDepth, decidedIn, applied, forgetting, DecisionDepthStays, isSuspicion, plain, deliversE, takesE, senderOf, ledBy, TwoSteps}
+use Rattle.rules.specs.DepthRun.{DeepState, stateOf, startState, next, after, DeepBegins, at, processDepth, messageDepth, decidedIn, applied, forgetting, DecisionDepthStays, isSuspicion, plain, deliversE, takesE, senderOf, ledBy, TwoSteps}
 use Rattle.rules.proofs.BoolLaws.{and-left, and-right, and-both, or-case, or-left}
 use Rattle.rules.proofs.TallyLaws.{holds-joined, holds-other, holds-empty, meets-count, joined-below}
 use Rattle.rules.proofs.CountLaws.{count-le}
@@ -94,14 +94,14 @@ module _ (vs : List ℕ) (i : ℕ) (lo : 1 ≤ i) where
       ∙ process-by (λ (p : Process). p .decided ≡ true) (forgetting (a .group)) (a .store) s i (h .basic .sized) lo hi crash-decided before
       (λ p t f. event-decided (forgetting (a .group)) (a .store) s f (ap (λ (k : ℕ). processAt (forgetting (a .group)) k .decided) t ∙ before))
 
-  depth-next : (a : DeepState) (s : Step) → DeepBasic vs a → decidedIn a i ≡ true → depthOf (next a s) i ≡ depthOf a i
+  depth-next : (a : DeepState) (s : Step) → DeepBasic vs a → decidedIn a i ≡ true → processDepth (next a s) i ≡ processDepth a i
   depth-next a s h e =
       depth-unheard vs a h s i lo
       (λ w t. never (heard-undecided (a .group) s (w .delivery) (w .not-idle)) (ap (λ (k : ℕ). decidedIn a k) t ∙ e))
 
-  decided-depth : (a : DeepState) (ts : List Step) → DeepBasic vs a → i ≤ greatestSize → decidedIn a i ≡ true → depthOf (after a ts) i ≡ depthOf a i
+  decided-depth : (a : DeepState) (ts : List Step) → DeepBasic vs a → i ≤ greatestSize → decidedIn a i ≡ true → processDepth (after a ts) i ≡ processDepth a i
   decided-depth a ts h hi e =
-      deep-throughout vs (λ (b : DeepState). (decidedIn b i ≡ true) × (depthOf b i ≡ depthOf a i))
+      deep-throughout vs (λ (b : DeepState). (decidedIn b i ≡ true) × (processDepth b i ≡ processDepth a i))
       (λ b s k p. (decided-next b s k hi (p .0), depth-next b s k (p .0) ∙ p .1)) a ts h (e, refl) .1
 
 pub decision-depth-stays : DecisionDepthStays
@@ -130,7 +130,7 @@ record Entries (l d : List ℕ) : Type 0 where
   relayed : (j : ℕ) → 2 ≤ j → j ≤ greatestSize → getD l (slot 0 j kindE) 0 ≢ 0 → getD d (slot 0 j kindE) 0 ≡ 1
 
 record Good (took : ℕ → Bool) (a : DeepState) : Type 0 where
-  each : (i : ℕ) → 1 ≤ i → i ≤ a .group .n → Early i (took i) (processAt (a .group) i) (depthOf a i) (getD (a .store) (slot 0 i kindE) 0)
+  each : (i : ℕ) → 1 ≤ i → i ≤ a .group .n → Early i (took i) (processAt (a .group) i) (processDepth a i) (getD (a .store) (slot 0 i kindE) 0)
   entries : Entries (a .store) (a .depths)
 
 -- ---- what is handed over
@@ -263,7 +263,7 @@ module _ (vs : List ℕ) (a : DeepState) (h : DeepBasic vs a) (s : Step) (t : To
         overs-turn T taker event (a .store) q one two lt z (λ e. ne (ap (λ (l : List ℕ). getD l q 0) (t .store) ∙ e))
 
     -- the entries are kept, where an E that is new has depth 1
-    entries-kept : (T → getD (a .store) (slot 0 taker kindE) 0 ≡ 0 → depthOf (next a s) taker ≡ 1) → Entries (a .store) (a .depths)
+    entries-kept : (T → getD (a .store) (slot 0 taker kindE) 0 ≡ 0 → processDepth (next a s) taker ≡ 1) → Entries (a .store) (a .depths)
         → Entries (next a s .store) (next a s .depths)
     entries-kept new e =
         record {
@@ -287,8 +287,8 @@ module _ (vs : List ℕ) (a : DeepState) (h : DeepBasic vs a) (s : Step) (t : To
         dates j lo hi sent (no ne) = message-kept vs a h s (slot 0 j kindE) ne ∙ e .relayed j lo hi ne
 
     -- so is all, where the taker's is
-    good-kept : (took took' : ℕ → Bool) → ((m : ℕ) → m ≢ taker → took' m ≡ took m) → (T → getD (a .store) (slot 0 taker kindE) 0 ≡ 0 → depthOf (next a s) taker ≡ 1)
-        → Good took a → Early taker (took' taker) (event .process) (depthOf (next a s) taker) (getD (next a s .store) (slot 0 taker kindE) 0)
+    good-kept : (took took' : ℕ → Bool) → ((m : ℕ) → m ≢ taker → took' m ≡ took m) → (T → getD (a .store) (slot 0 taker kindE) 0 ≡ 0 → processDepth (next a s) taker ≡ 1)
+        → Good took a → Early taker (took' taker) (event .process) (processDepth (next a s) taker) (getD (next a s .store) (slot 0 taker kindE) 0)
         → Good took' (next a s)
     good-kept took took' others new good mine =
         record {
@@ -303,14 +303,14 @@ module _ (vs : List ℕ) (a : DeepState) (h : DeepBasic vs a) (s : Step) (t : To
         size = deep-size vs (next a s) (deep-next vs a h s) ∙ sym (deep-size vs a h)
 
         by : (m : ℕ) → 1 ≤ m → m ≤ greatestSize → m ≤ a .group .n → Dec (m ≡ taker)
-            → Early m (took' m) (processAt (next a s .group) m) (depthOf (next a s) m) (getD (next a s .store) (slot 0 m kindE) 0)
+            → Early m (took' m) (processAt (next a s .group) m) (processDepth (next a s) m) (getD (next a s .store) (slot 0 m kindE) 0)
         by m lo hi le (yes e) =
-            subst (λ (m : ℕ). Early m (took' m) (processAt (next a s .group) m) (depthOf (next a s) m) (getD (next a s .store) (slot 0 m kindE) 0)) (sym e)
-            (subst (λ (p : Process). Early taker (took' taker) p (depthOf (next a s) taker) (getD (next a s .store) (slot 0 taker kindE) 0)) (sym own-process) mine)
+            subst (λ (m : ℕ). Early m (took' m) (processAt (next a s .group) m) (processDepth (next a s) m) (getD (next a s .store) (slot 0 m kindE) 0)) (sym e)
+            (subst (λ (p : Process). Early taker (took' taker) p (processDepth (next a s) taker) (getD (next a s .store) (slot 0 taker kindE) 0)) (sym own-process) mine)
         by m lo hi le (no ne) =
             let old = good .each m lo le in
             let same = other-process m lo hi ne in
-            let depth : depthOf (next a s) m ≡ depthOf a m = depth-unheard vs a h s m lo (λ w e. ne (sym e)) in
+            let depth : processDepth (next a s) m ≡ processDepth a m = depth-unheard vs a h s m lo (λ w e. ne (sym e)) in
             record {
               round = ap (λ (p : Process). p .round) same ∙ old .round;
               phase = ap (λ (p : Process). p .phase) same ∙ old .phase;
@@ -360,7 +360,7 @@ good-same : (took took' : ℕ → Bool) (a : DeepState) → ((m : ℕ) → took'
 good-same took took' a same good =
     record {
       each = λ i lo hi.
-          subst (λ (t : Bool). Early i t (processAt (a .group) i) (depthOf a i) (getD (a .store) (slot 0 i kindE) 0)) (sym (same i)) (good .each i lo hi);
+          subst (λ (t : Bool). Early i t (processAt (a .group) i) (processDepth a i) (getD (a .store) (slot 0 i kindE) 0)) (sym (same i)) (good .each i lo hi);
       entries = good .entries;
     }
 
@@ -558,7 +558,7 @@ module _ (vs : List ℕ) (a : DeepState) (h : DeepBasic vs a) (took : ℕ → Bo
       by (inr e) = or-by (or-case (took i) (eqb j 1) e)
 
   -- the taker before it
-  mine : Early i (took i) before (depthOf a i) (getD (a .store) place 0)
+  mine : Early i (took i) before (processDepth a i) (getD (a .store) place 0)
   mine = good .each i (to .0) (to .1)
 
   unmoved : before .decided ≡ false
@@ -566,14 +566,14 @@ module _ (vs : List ℕ) (a : DeepState) (h : DeepBasic vs a) (took : ℕ → Bo
   unmoved = heard-undecided (a .group) step refl (t .busy)
 
   -- its depth after it
-  deeper : depthOf (next a step) i ≡ max (depthOf a i) (messageDepth a (slot r j kindE) + 1)
+  deeper : processDepth (next a step) i ≡ max (processDepth a i) (messageDepth a (slot r j kindE) + 1)
   unfolding takerOf delivers slotOf
   deeper = depth-heard vs a h step (record { delivery = refl; taken = t .applies; not-idle = t .busy })
 
-  hops : Hop i (before .estimates) (getD (a .store) place 0) j (depthOf (next a step) i)
+  hops : Hop i (before .estimates) (getD (a .store) place 0) j (processDepth (next a step) i)
   hops =
       subst (λ (k : ℕ). Hop i (before .estimates) (getD (a .store) place 0) j k) (sym deeper)
-      (hop i (took i) (before .estimates) (depthOf a i) (getD (a .store) place 0) j (messageDepth a (slot r j kindE)) (mine .undecided unmoved) (from .0) first-one
+      (hop i (took i) (before .estimates) (processDepth a i) (getD (a .store) place 0) j (messageDepth a (slot r j kindE)) (mine .undecided unmoved) (from .0) first-one
       (λ e. ap (λ (q : ℕ). messageDepth a q) (omega (arith, round-none)) ∙ good .entries .first-depth)
       (λ two.
       let same : slot r j kindE ≡ slot 0 j kindE = omega (arith, round-none) in
@@ -617,7 +617,7 @@ module _ (vs : List ℕ) (a : DeepState) (h : DeepBasic vs a) (took : ℕ → Bo
       })
 
   -- where it decides, its depth is 2
-  decides-two : 2 ≤ a .group .n → decidedIn (next a step) i ≡ true → depthOf (next a step) i ≡ 2
+  decides-two : 2 ≤ a .group .n → decidedIn (next a step) i ≡ true → processDepth (next a step) i ≡ 2
   unfolding takerOf
   decides-two two d =
       let now = heeded .majority unmoved (ap (λ (p : Process). p .decided) (sym (own-process vs a h step t)) ∙ d) in
@@ -660,14 +660,14 @@ calm-early i t p q k k' e e' stay m old = record { round = m .round ∙ old .rou
 module _ (vs : List ℕ) (a : DeepState) (h : DeepBasic vs a) (took : ℕ → Bool) (good : Good took a) where
   -- a step that takes no E and hands none over
   good-calm : (s : Step) → Took a s → takesE a s ≡ false → Mild ⊥ (eventOf (a .group) (a .store) s .first) → Mild ⊥ (eventOf (a .group) (a .store) s .second)
-      → Calm (processAt (a .group) (takerOf s)) (eventOf (a .group) (a .store) s .process) (depthOf a (takerOf s)) (depthOf (next a s) (takerOf s))
+      → Calm (processAt (a .group) (takerOf s)) (eventOf (a .group) (a .store) s .process) (processDepth a (takerOf s)) (processDepth (next a s) (takerOf s))
       → Good (tookBy took a s) (next a s)
   good-calm s t no-e one two m =
       let i = takerOf s in
       let same = took-none took a s no-e in
       good-kept vs a h s t ⊥ one two took (tookBy took a s) (λ k ne. same k) (λ x. absurd x) good
-      (subst (λ (b : Bool). Early i b (eventOf (a .group) (a .store) s .process) (depthOf (next a s) i) (getD (next a s .store) (slot 0 i kindE) 0)) (sym (same i))
-      (calm-early i (took i) (processAt (a .group) i) (eventOf (a .group) (a .store) s .process) (depthOf a i) (depthOf (next a s) i) (getD (a .store) (slot 0 i kindE) 0)
+      (subst (λ (b : Bool). Early i b (eventOf (a .group) (a .store) s .process) (processDepth (next a s) i) (getD (next a s .store) (slot 0 i kindE) 0)) (sym (same i))
+      (calm-early i (took i) (processAt (a .group) i) (eventOf (a .group) (a .store) s .process) (processDepth a i) (processDepth (next a s) i) (getD (a .store) (slot 0 i kindE) 0)
       (getD (next a s .store) (slot 0 i kindE) 0) (stays vs a h s t (slot 0 i kindE)) m (good .each i (t .taking .low) (t .taking .high))))
 
   -- every step that a process takes
@@ -744,7 +744,7 @@ good-start vs l d b =
         let sent : sentIn (a .store) storeLength ≡ 1 = ap (λ (m : List ℕ). sentIn m storeLength) store ∙ opened-sent (getD vs 0 0) l long in
         omega (arith, deep-start vs l d b .messages 0 (omega arith))
 
-    each : (i : ℕ) → 1 ≤ i → i ≤ a .group .n → Early i false (processAt (a .group) i) (depthOf a i) (getD (a .store) (slot 0 i kindE) 0)
+    each : (i : ℕ) → 1 ≤ i → i ≤ a .group .n → Early i false (processAt (a .group) i) (processDepth a i) (getD (a .store) (slot 0 i kindE) 0)
     each i lo hi =
         let le : i ≤ length vs = omega (arith, ap (λ (g : Group). g .n) group, started-size vs (length vs)) in
         let is = ap (λ (g : Group). processAt g i) group ∙ started-process vs (length vs) i lo le (b .begins .few) in
@@ -754,7 +754,7 @@ good-start vs l d b =
           undecided = λ u.
               record {
                 untaken = λ f. (
-                  ap (λ (b : DeepState). depthOf b i) (start-deep vs l d b) ∙ depth-started vs (length vs) i (b .begins .few) (omega (arith, b .begins .few)),
+                  ap (λ (b : DeepState). processDepth b i) (start-deep vs l d b) ∙ depth-started vs (length vs) i (b .begins .few) (omega (arith, b .begins .few)),
                   ap (λ (p : Process). p .estimates) is,
                 );
                 taken = λ f. never refl f;
@@ -769,7 +769,7 @@ good-start vs l d b =
 two-from : (vs : List ℕ) (a : DeepState) (took : ℕ → Bool) (ts us : List Step) (i j r : ℕ) (c : Bool) → DeepBasic vs a → Good took a → 2 ≤ length vs
     → plain (ts ++ (DeliverE i j r c ∷ us)) ≡ true → ledBy took a (ts ++ (DeliverE i j r c ∷ us)) ≡ true
     → decidedIn (after a ts) i ≡ false → decidedIn (next (after a ts) (DeliverE i j r c)) i ≡ true
-    → depthOf (next (after a ts) (DeliverE i j r c)) i ≡ 2
+    → processDepth (next (after a ts) (DeliverE i j r c)) i ≡ 2
 unfolding after plain ledBy takerOf senderOf
 two-from vs a took [] us i j r c h good two p led old new =
     by (step-took vs a s h (not-true (isCut s) (and-right (not (isSuspicion s)) (not (isCut s)) (and-left (not (isSuspicion s) && not (isCut s)) (plain us) p))))
@@ -780,7 +780,7 @@ two-from vs a took [] us i j r c h good two p led old new =
     rest : Bool
     rest = ledBy (tookBy took a s) (next a s) us
 
-    by : ((next a s ≡ a) × (applied a s ≡ false)) ⊎ Took a s → depthOf (next a s) i ≡ 2
+    by : ((next a s ≡ a) × (applied a s ≡ false)) ⊎ Took a s → processDepth (next a s) i ≡ 2
     by (inl (e, u)) = never (ap (λ (b : DeepState). decidedIn b i) e ∙ old) new
     by (inr t) =
         decides-two vs a h took good i j r c t (and-left (not (takesE a s) || (took i || eqb j 1)) rest led) (omega (arith, deep-size vs a h)) new
@@ -801,6 +801,6 @@ two-steps vs l d ss b ts us i j r c two p led split o old new =
     two-from vs (startState vs l d) (λ i. false) ts us i j r c (deep-start vs l d b) (good-start vs l d b) two (ap plain (sym split) ∙ p)
     (ap (ledBy (λ i. false) (startState vs l d)) (sym split) ∙ led) old new in (
       now,
-      ap (λ (ss : List Step). depthOf (at vs l d ss) i) split ∙ ap (λ (b : DeepState). depthOf b i) (deep-more (startState vs l d) ts (s ∷ us))
+      ap (λ (ss : List Step). processDepth (at vs l d ss) i) split ∙ ap (λ (b : DeepState). processDepth b i) (deep-more (startState vs l d) ts (s ∷ us))
           ∙ decided-depth vs i (o .low) (next a s) us (deep-next vs a (deep-basic vs l d ts b) s) (omega (arith, o .high, b .begins .few)) new ∙ now,
     )

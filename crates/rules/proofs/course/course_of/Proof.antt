@@ -1,7 +1,7 @@
 -- `course_of` meets its contract: the address, then the course over the record, the entry and its depth. Assumes nothing.
 use Rattle.rules.proofs.CourseLaws.{reached, misses-course, held-course, taker-low, place-low, numbered}
 use Rattle.rules.proofs.DepthLaws.{deep-facts}
-use Rattle.rules.specs.Depths.{depthIn}
+use Rattle.rules.specs.Depths.{deliveredDepth}
 use Rattle.rules.specs.Steps.{entryIn}
 use Rattle.rules.specs.Records.{processAt}
 use lib.ListN.{getD}
@@ -55,7 +55,7 @@ returns : tie.Need-returns
 returns c = misses-course _ _ _ _ (c .before .before .before .before .before .before .pre) (sym (c .before .before .before .address .ensures) ∙ c .before .address2 .given .1)
 
 returns-2 : tie.Need-returns-2
-unfolding entryIn depthIn
+unfolding entryIn deliveredDepth
 returns-2 c =
     let t = reached _ _ (sym (c .before .before .before .before .before .before .before .address .ensures) ∙ c .before .before .before .before .before .address3 .given .1) in
     c .course .ensures ∙ held-course _ _ _ _ (c .before .before .before .before .before .before .before .before .before .before .pre) (t .numbers) (t .taker-is) (ap (λ (k : ℕ). getD (c .before .before .before .before .before .before .before .before .before .before .args .store .now) k 0) (t .place-is)) (ap (λ (k : ℕ). getD (c .before .before .before .before .before .before .before .before .before .before .args .depths .now) k 0) (t .place-is)) (c .before .take-out .ensures (c .before .before .before .before .before .before .before .before .before .before .args .n) ∙ ap (processAt _) (t .taker-is))

@@ -1,6 +1,6 @@
 -- `depth_after` meets its contract: a step that is no delivery, or an idle one, keeps the depth, and any other raises it by the message's. Assumes nothing.
 use Rattle.rules.proofs.CourseLaws.{place-low}
-use Rattle.rules.specs.Depths.{depthIn, raises, raised, depthAfter, tooDeep}
+use Rattle.rules.specs.Depths.{deliveredDepth, raises, raised, depthAfter, tooDeep}
 use Rattle.rules.specs.Idle.{idle}
 use Rattle.rules.specs.Limits.{greatestSize, deepestMessage}
 use Rattle.rules.specs.Parts.{hears}
@@ -47,7 +47,7 @@ hears-delivers p (Recover i) h = h
 
 -- whose message is not too deep
 shallow : (d : List ℕ) (s : Step) {k : ℕ} → tooDeep d s ≡ false → delivers s ≡ true → k ≡ slotOf s → getD d k 0 ≤ deepestMessage
-unfolding tooDeep depthIn
+unfolding tooDeep deliveredDepth
 shallow d s h e p = rw p (ltb-false deepestMessage (getD d (slotOf s) 0) (rw e at h))
 
 module _ (g : Group) (d : List ℕ) (s : Step) {p : Process} {i k : ℕ} (hi : i ≡ takerOf s) (hp : p ≡ processAt g i) (hk : k ≡ depthAt g i) where
@@ -59,7 +59,7 @@ module _ (g : Group) (d : List ℕ) (s : Step) {p : Process} {i k : ℕ} (hi : i
   keeps h = hk ∙ ap (depthAt g) hi ∙ rw (heard h)
 
   rises : {j m : ℕ} → hears p s ≡ true → j ≡ slotOf s → m ≡ raised true (getD d j 0) k → m ≡ depthAfter g d s
-  unfolding depthAfter depthIn
+  unfolding depthAfter deliveredDepth
   rises h hj hm = hm ∙ ap₂ (raised true) (ap (λ (a : ℕ). getD d a 0) hj) (hk ∙ ap (depthAt g) hi) ∙ rw (heard h)
 
 take-out-requires : tie.Need-take-out-requires
