@@ -123,13 +123,12 @@ DepthRecovery = EveryRun λ vs l d ss. (ts : List Step) (i : ℕ) → Of vs i �
     → (processDepth (after (at vs l d ss) ts) i ≡ processDepth (at vs l d ss) i)
     × (processDepth (next (after (at vs l d ss) ts) (Recover i)) i ≡ processDepth (at vs l d ss) i)
 
--- a pause, a crash and a suspicion change no depth, and a cut leaves the depth of the same step uncut
-abbrev pub GoingDownKeepsDepth : Type 0
-GoingDownKeepsDepth = EveryRun λ vs l d ss. (i : ℕ) (c : Bool) → Of vs i
-    → (processDepth (next (at vs l d ss) (Pause i)) i ≡ processDepth (at vs l d ss) i)
-    × (processDepth (next (at vs l d ss) (Crash i)) i ≡ processDepth (at vs l d ss) i)
-    × (processDepth (next (at vs l d ss) (Suspect i c)) i ≡ processDepth (at vs l d ss) i)
+-- a step that delivers nothing, as a pause, a crash, a recover and a suspicion, changes no depth
+abbrev pub QuietKeepsDepths : Type 0
+QuietKeepsDepths = EveryRun λ vs l d ss. (s : Step) (i : ℕ) → Of vs i → delivers s ≡ false
+    → processDepth (next (at vs l d ss) s) i ≡ processDepth (at vs l d ss) i
 
+-- a cut leaves the depth of the same step uncut
 abbrev pub CutKeepsDepth : Type 0
 CutKeepsDepth = EveryRun λ vs l d ss. (s : Step) (i : ℕ) → Of vs i
     → processDepth (next (at vs l d ss) (safety.cut s)) i ≡ processDepth (next (at vs l d ss) s) i
@@ -200,8 +199,8 @@ TwoSteps = EveryRun λ vs l d ss. (ts us : List Step) (i j r : ℕ) (c : Bool) �
 
 -- ---- 14: depth means what it says
 
--- a delivery, right after the steps ts, that is applied and is no cut idle one
-pub record Taken (vs l : List ℕ) (ts : List Step) (s : Step) : Type 0 where
+-- a link of a chain: a delivery, right after the steps ts, that is applied and is no cut idle one
+pub record Link (vs l : List ℕ) (ts : List Step) (s : Step) : Type 0 where
   pub delivery : delivers s ≡ true
   pub applied : base.stepped (safety.at vs l ts .group) (safety.at vs l ts .store) s .says .applied ≡ true
   pub not-idle : idle (safety.at vs l ts .group) s ≡ false
@@ -209,8 +208,8 @@ pub record Taken (vs l : List ℕ) (ts : List Step) (s : Step) : Type 0 where
 -- a chain of k deliveries of the run, in its order, the last of which is the step s right after the steps ts: "every delivered message after the first was first handed over by the
 -- process that took the delivery before it, at that step or a later one". Its sender is that process, and its entry was 0, "not sent", before that delivery. No depth is looked at
 pub data Chain (vs l : List ℕ) : List Step → Step → ℕ → Type 0 where
-  one : {ts : List Step} {s : Step} → Taken vs l ts s → Chain vs l ts s 1
-  more : {ts ws : List Step} {s t : Step} {k : ℕ} (us : List Step) → Chain vs l ts s k → ws ≡ ts ++ (s ∷ us) → Taken vs l ws t
+  one : {ts : List Step} {s : Step} → Link vs l ts s → Chain vs l ts s 1
+  more : {ts ws : List Step} {s t : Step} {k : ℕ} (us : List Step) → Chain vs l ts s k → ws ≡ ts ++ (s ∷ us) → Link vs l ws t
       → senderOf t ≡ takerOf s → entryIn (safety.at vs l ts .store) t ≡ 0 → Chain vs l ws t (k + 1)
 
 -- a chain of k deliveries of the steps ss whose last delivery is to process i

@@ -1,4 +1,4 @@
--- A run: any finite list of steps from a start, with what was handed over. Assumes nothing.
+-- A run: any finite list of steps from a start, with what was handed over; without depths (`DepthRun` has them). Assumes nothing.
 -- That refusal 6 comes "exactly when neither the start nor any earlier applied step handed that message over" is said of `handedFrom`, in Safety.
 use mathlib.Core.Bool.{Bool, true, false}
 use mathlib.Core.List.{List, [], _∷_, _++_}

@@ -1,4 +1,5 @@
--- What holds of every run, stated over the definitions that the contracts of start and step cite. The proofs are in proofs/Safety. Assumes nothing.
+-- What holds of every run without depths. The run that the contracts of start and step cite is this one with depths beside it, and `DepthRun` says so: statement 10 there carries over
+-- what is said here. The proofs are in proofs/Safety. Assumes nothing.
 use mathlib.Core.Path.{_≡_}
 use mathlib.Core.Bool.{Bool, true, false, _&&_, not}
 use mathlib.Core.List.{List, [], _∷_}

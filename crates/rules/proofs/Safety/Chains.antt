@@ -28,7 +28,7 @@ use Rattle.rules.specs.Run.{State}
 use Rattle.rules.specs.Run as run
 use Rattle.rules.specs.Safety.{Of}
 use Rattle.rules.specs.Safety as safety
-use Rattle.rules.specs.DepthRun.{DeepState, startState, next, after, DeepBegins, at, processDepth, messageDepth, applied, forgetting, senderOf, Taken, Chain, Ends, DepthIsLongest}
+use Rattle.rules.specs.DepthRun.{DeepState, startState, next, after, DeepBegins, at, processDepth, messageDepth, applied, forgetting, senderOf, Link, Chain, Ends, DepthIsLongest}
 use Rattle.rules.specs.DepthRun.Chain.{one, more}
 use Rattle.rules.proofs.StoreLaws.{opened-sent}
 use Rattle.rules.proofs.SoundLaws.{taker-in}
@@ -177,13 +177,13 @@ module _ (vs l d : List ℕ) (b : DeepBegins vs l d) where
       sym (idle-forgets (at vs l d ts .group) s (h .sized) (le-trans (applied-taker (at vs l d ts) s e .1) (deep-few vs (at vs l d ts) h)))
       ∙ ap (λ (c : State). idle (c .group) s) (depths-change-nothing vs l d ts b)
 
-  taken-heard : (ts : List Step) (s : Step) → Taken vs l ts s → Heard (at vs l d ts) s
-  taken-heard ts s t =
+  link-heard : (ts : List Step) (s : Step) → Link vs l ts s → Heard (at vs l d ts) s
+  link-heard ts s t =
       let e = same-applied ts s ∙ t .applied in
       record { delivery = t .delivery; taken = e; not-idle = same-idle ts s e ∙ t .not-idle }
 
-  heard-taken : (ts : List Step) (s : Step) → Heard (at vs l d ts) s → Taken vs l ts s
-  heard-taken ts s t =
+  heard-link : (ts : List Step) (s : Step) → Heard (at vs l d ts) s → Link vs l ts s
+  heard-link ts s t =
       record { delivery = t .delivery; applied = sym (same-applied ts s) ∙ t .taken; not-idle = sym (same-idle ts s (t .taken)) ∙ t .not-idle }
 
   -- the state after a step and more
@@ -194,12 +194,12 @@ module _ (vs l d : List ℕ) (b : DeepBegins vs l d) where
   -- ---- no chain is longer
 
   -- its last delivery
-  chain-taken : {ts : List Step} {s : Step} {k : ℕ} → Chain vs l ts s k → Taken vs l ts s
+  chain-taken : {ts : List Step} {s : Step} {k : ℕ} → Chain vs l ts s k → Link vs l ts s
   chain-taken (one t) = t
   chain-taken (more us c e t sender z) = t
 
   -- one delivery more
-  one-more : (ts us ws : List Step) (s t : Step) (k : ℕ) → ws ≡ ts ++ (s ∷ us) → Taken vs l ts s → Taken vs l ws t → senderOf t ≡ takerOf s
+  one-more : (ts us ws : List Step) (s t : Step) (k : ℕ) → ws ≡ ts ++ (s ∷ us) → Link vs l ts s → Link vs l ws t → senderOf t ≡ takerOf s
       → entryIn (safety.at vs l ts .store) t ≡ 0 → k ≤ processDepth (next (at vs l d ts) s) (takerOf s)
       → k + 1 ≤ processDepth (next (at vs l d ws) t) (takerOf t)
   unfolding entryIn
@@ -208,9 +208,9 @@ module _ (vs l d : List ℕ) (b : DeepBegins vs l d) where
       let h = deep-basic vs l d ts b in
       let w = at vs l d ws in
       let hw = deep-basic vs l d ws b in
-      let heard = taken-heard ws t tk in
+      let heard = link-heard ws t tk in
       let ad = heard-addresses vs w hw t heard in
-      let low : 1 ≤ senderOf t = omega (arith, sender, applied-taker a s (taken-heard ts s before .taken) .0) in
+      let low : 1 ≤ senderOf t = omega (arith, sender, applied-taker a s (link-heard ts s before .taken) .0) in
       let first =
       at-least-new vs a h s t k ad (omega (arith, le, ap (processDepth (next a s)) sender)) (ap (λ (m : List ℕ). getD m (slotOf t) 0) (same-store ts) ∙ z) in
       let onward : AtLeast t k (after (next a s) us) =
@@ -219,7 +219,7 @@ module _ (vs l d : List ℕ) (b : DeepBegins vs l d) where
       omega (arith, depth-heard vs w hw t heard, there .message (heard-sent w t heard))
 
   chain-most : {ts : List Step} {s : Step} {k : ℕ} → Chain vs l ts s k → k ≤ processDepth (next (at vs l d ts) s) (takerOf s)
-  chain-most {ts} {s} (one t) = omega (arith, depth-heard vs (at vs l d ts) (deep-basic vs l d ts b) s (taken-heard ts s t))
+  chain-most {ts} {s} (one t) = omega (arith, depth-heard vs (at vs l d ts) (deep-basic vs l d ts b) s (link-heard ts s t))
   chain-most (more {ts} {ws} {s} {t} {k} us c e tk sender z) = one-more ts us ws s t k e (chain-taken c) tk sender z (chain-most c)
 
   -- from its last delivery on
@@ -295,10 +295,10 @@ module _ (vs l d : List ℕ) (b : DeepBegins vs l d) where
     heard-chain e = go (ℕ-discrete (messageDepth a (slotOf s)) 0)
       where
         go : Dec (messageDepth a (slotOf s) ≡ 0) → Chain vs l ss s (messageDepth a (slotOf s) + 1)
-        go (yes z) = subst (λ (k : ℕ). Chain vs l ss s (k + 1)) (sym z) (one (heard-taken ss s e))
+        go (yes z) = subst (λ (k : ℕ). Chain vs l ss s (k + 1)) (sym z) (one (heard-link ss s e))
         go (no nz) =
             let c = told .messages s (heard-addresses vs a h s e) (heard-sent a s e) nz in
-            more (c .ends .later) (c .ends .chain) (c .ends .steps) (heard-taken ss s e) (sym (c .ends .taker)) (c .unsent-then)
+            more (c .ends .later) (c .ends .chain) (c .ends .steps) (heard-link ss s e) (sym (c .ends .taker)) (c .unsent-then)
 
     -- a chain of k to process i that the step ends, or one that ended before
     abbrev Either : ℕ → ℕ → Type 0

@@ -1,4 +1,4 @@
--- What changes no depth: being down and recovering, a pause, a crash, a suspicion; and a cut leaves the depth of the same step uncut. Assumes nothing.
+-- What changes no depth: being down, and a step that delivers nothing; and a cut leaves the depth of the same step uncut. Assumes nothing.
 use mathlib.Core.Path.{_≡_, refl, sym, ap, subst, _∙_}
 use mathlib.Core.Bool.{Bool, true, false, not}
 use mathlib.Core.List.{List, [], _∷_}
@@ -20,7 +20,7 @@ use Rattle.rules.specs.Step as base
 use Rattle.rules.specs.Depths.{deliveredDepth, tooDeep, refusal, course, settled, stepped}
 use Rattle.rules.specs.Run.{State}
 use Rattle.rules.specs.Safety.{DownThrough, cut}
-use Rattle.rules.specs.DepthRun.{DeepState, next, after, at, processDepth, messageDepth, applied, forgotten, DepthRecovery, GoingDownKeepsDepth, CutKeepsDepth}
+use Rattle.rules.specs.DepthRun.{DeepState, next, after, at, processDepth, messageDepth, applied, forgotten, DepthRecovery, QuietKeepsDepths, CutKeepsDepth}
 use Rattle.rules.proofs.ForgetLaws.{process-forgets}
 use Rattle.rules.proofs.Safety.Cases.{never}
 use Rattle.rules.proofs.Safety.Depths.{DeepBasic, deep-basic, deep-basic-after, deep-next, next-forgets, depths-change-nothing}
@@ -74,14 +74,8 @@ depth-recovery vs l d ss b ts i o down =
     let still = down-after vs (at vs l d ss) ts i h (o .low) hi (subst (λ (c : State). DownThrough c ts i) (sym (depths-change-nothing vs l d ss b)) down) in
     (still, quiet-next vs (after (at vs l d ss) ts) (Recover i) i (deep-basic-after vs (at vs l d ss) ts h) (o .low) refl ∙ still)
 
-pub going-down-keeps-depth : GoingDownKeepsDepth
-unfolding delivers
-going-down-keeps-depth vs l d ss b i c o =
-    let h = deep-basic vs l d ss b in (
-      quiet-next vs (at vs l d ss) (Pause i) i h (o .low) refl,
-      quiet-next vs (at vs l d ss) (Crash i) i h (o .low) refl,
-      quiet-next vs (at vs l d ss) (Suspect i c) i h (o .low) refl,
-    )
+pub quiet-keeps-depths : QuietKeepsDepths
+quiet-keeps-depths vs l d ss b s i o e = quiet-next vs (at vs l d ss) s i (deep-basic vs l d ss b) (o .low) e
 
 -- ---- a cut
 
