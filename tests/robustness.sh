@@ -188,6 +188,16 @@ depth 2  decided 400  $fifty
 depth 3  decided 400  $fifty
 depth 4  decided   0
 depth 5  decided   1  #"
+# In round 4 it decides at 9.
+{
+  printf 'VALUES 1\n7\nWARMUP 0\nMEASURED 13\n'
+  for r in 0 1 2 3; do printf 'Q 1\nS 1 1 %d\nF 1 1 %d\n' $r $r; done
+  printf 'E 1 1 4\n'
+} > nine
+try "$model" steps one nine
+tail -n 3 out > part && mv part out;                        check "model steps, many depths at which nobody decides" 0 "depth 1  decided 1  #
+depth 2 to 8  decided 0
+depth 9  decided 1  #"
 
 # A file without read permission, as a user who is not root
 cp "$example" secret
