@@ -20,7 +20,7 @@ use Rattle.rules.specs.Limits.{among}
 use Rattle.rules.specs.Records.{depthIn, depthAt, withDepth}
 use Rattle.rules.specs.Depths as deep
 use Rattle.rules.specs.DepthRun as run
-use Rattle.rules.specs.DepthTable.{allDeep, allDated, ends, depthsHold, goodRun, relayFirst, coordinatorCrashes, cutKeeps, depthTable}
+use Rattle.rules.specs.DepthTable.{allDeep, allDated, ends, holdsFrom, depthsHold, goodRun, relayFirst, coordinatorCrashes, cutKeeps, depthTable}
 
 -- the single statement
 pub depths-hold : depthsHold depthTable ≡ true
@@ -41,6 +41,6 @@ unfolding ones
     depthIn depthAt withDepth
     deep.deliveredDepth deep.raises deep.raised deep.depthAfter deep.datedIf deep.dated deep.datedBoth deep.damaged deep.tooDeep deep.refusal deep.startRefusal
     deep.opened deep.unlessRefusedStart deep.started deep.course deep.deepened deep.datedBy deep.settled deep.stepped
-    run.startState run.next run.after
-    allDeep allDated ends depthsHold goodRun relayFirst coordinatorCrashes cutKeeps depthTable
+    run.startState run.next run.after run.isSuspicion run.plain run.deliversE run.senderOf run.ledBy
+    allDeep allDated ends holdsFrom depthsHold goodRun relayFirst coordinatorCrashes cutKeeps depthTable
 depths-hold = refl

@@ -8,7 +8,7 @@ use lib.ListN.{replicate}
 use Rattle.rules.specs.declared.step.Step.{Step}
 use Rattle.rules.specs.declared.step.Step.the-variants.{DeliverE, DeliverS, DeliverF, DeliverDecision, Suspect, Crash, Recover}
 use Rattle.rules.specs.Limits.{storeLength}
-use Rattle.rules.specs.DepthRun.{DeepState, startState, after, processDepth, messageDepth, decidedIn}
+use Rattle.rules.specs.DepthRun.{DeepState, startState, after, processDepth, messageDepth, decidedIn, plain, led}
 
 -- a process, whether it has decided, and its depth; and a place of the store with the depth of its message
 pub record Deep : Type 0 where
@@ -29,9 +29,10 @@ pub record Dated : Type 0 where
 abbrev pub dated : ℕ → ℕ → Dated
 dated q k = record { place = q; depth = k }
 
--- a run: its steps; then what it must end with
+-- a run: its steps, and whether they keep what statement 13 asks, no suspicion and no cut, and each process's first E of process 1; then what it must end with
 pub record DepthRow : Type 0 where
   pub steps : List Step
+  pub asked : Bool
   pub processes : List Deep
   pub messages : List Dated
 
@@ -48,9 +49,13 @@ allDated a (x ∷ xs) = eqb (messageDepth a (x .place)) (x .depth) && allDated a
 unfoldable pub ends : DeepState → DepthRow → Bool
 ends a r = allDeep a (r .processes) && allDated a (r .messages)
 
+-- from the start a on
+unfoldable pub holdsFrom : DeepState → DepthRow → Bool
+holdsFrom a r = Bool·beq (plain (r .steps) && led a (r .steps)) (r .asked) && ends (after a (r .steps)) r
+
 unfoldable pub depthsHold : List DepthRow → Bool
 depthsHold [] = true
-depthsHold (r ∷ rs) = ends (after (startState (7 ∷ 9 ∷ 5 ∷ []) (replicate storeLength 0) (replicate storeLength 0)) (r .steps)) r && depthsHold rs
+depthsHold (r ∷ rs) = holdsFrom (startState (7 ∷ 9 ∷ 5 ∷ []) (replicate storeLength 0) (replicate storeLength 0)) r && depthsHold rs
 
 -- ---- the table
 
@@ -60,6 +65,7 @@ goodRun =
     record {
       steps =
           DeliverE 1 1 0 false ∷ DeliverE 2 1 0 false ∷ DeliverE 3 1 0 false ∷ DeliverE 1 2 0 false ∷ DeliverE 2 2 0 false ∷ DeliverE 3 2 0 false ∷ [];
+      asked = true;
       processes = decidesAt 1 2 ∷ decidesAt 2 2 ∷ decidesAt 3 2 ∷ [];
       messages = dated 0 0 ∷ dated 3 1 ∷ dated 6 1 ∷ dated 3072 2 ∷ dated 3073 2 ∷ dated 3074 2 ∷ [];
     }
@@ -69,6 +75,7 @@ unfoldable pub relayFirst : DepthRow
 relayFirst =
     record {
       steps = DeliverE 2 1 0 false ∷ DeliverE 3 2 0 false ∷ DeliverE 3 3 0 false ∷ [];
+      asked = false;
       processes = waitsAt 1 0 ∷ waitsAt 2 1 ∷ decidesAt 3 3 ∷ [];
       messages = dated 3 1 ∷ dated 6 2 ∷ dated 3074 3 ∷ [];
     }
@@ -94,6 +101,7 @@ coordinatorCrashes =
           ∷ Recover 1
           ∷ DeliverDecision 1 3 false
           ∷ [];
+      asked = false;
       processes = decidesAt 1 5 ∷ decidesAt 2 4 ∷ decidesAt 3 4 ∷ [];
       messages = dated 4 0 ∷ dated 5 1 ∷ dated 51 2 ∷ dated 54 3 ∷ dated 3073 4 ∷ dated 3072 5 ∷ [];
     }
@@ -103,6 +111,7 @@ unfoldable pub cutKeeps : DepthRow
 cutKeeps =
     record {
       steps = DeliverE 3 1 0 false ∷ DeliverE 2 3 0 true ∷ Recover 2 ∷ DeliverE 2 1 0 false ∷ [];
+      asked = false;
       processes = waitsAt 2 2 ∷ waitsAt 3 1 ∷ [];
       messages = dated 3 2 ∷ dated 6 1 ∷ [];
     }
