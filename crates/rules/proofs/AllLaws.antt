@@ -1,5 +1,5 @@
--- The laws of `allOf`: where it starts and how it goes on, what one that fails does, and what each of them says. Assumes nothing.
-use mathlib.Core.Path.{_≡_, refl, ap₂}
+-- The laws of `allOf`: where it starts and how it goes on, what one that fails does, what each of them says, and two tests at once. Assumes nothing.
+use mathlib.Core.Path.{_≡_, refl, sym, ap, ap₂, _∙_}
 use mathlib.Core.Bool.{Bool, true, false, _&&_, and-false}
 use Prim.Native.Nat.{ℕ, zero, suc, _+_, _≤_}
 use native.Mathlib.Decide.{ℕ-discrete}
@@ -41,3 +41,15 @@ module _ (p : ℕ → Bool) where
   unfolding allOf
   all-every zero h = refl
   all-every (suc n) h = ap₂ _&&_ (all-every n (λ k a b. h k a (omega arith))) (h (suc n) (omega arith) (omega arith))
+
+-- two tests at once
+both-swap : (a b c d : Bool) → ((a && b) && (c && d)) ≡ ((a && c) && (b && d))
+both-swap true true c d = refl
+both-swap true false c d = sym (and-false c)
+both-swap false b c d = refl
+
+pub all-both : (p q : ℕ → Bool) (n : ℕ) → allOf (λ i. p i && q i) n ≡ (allOf p n && allOf q n)
+unfolding allOf
+all-both p q zero = refl
+all-both p q (suc n) =
+    ap (λ (b : Bool). b && (p (suc n) && q (suc n))) (all-both p q n) ∙ both-swap (allOf p n) (allOf q n) (p (suc n)) (q (suc n))

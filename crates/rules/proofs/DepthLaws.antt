@@ -1,6 +1,6 @@
 -- The laws of depths: the table with the request's rows passes only what the table without them does, and what a course that is taken says. Assumes nothing.
-use mathlib.Core.Path.{_≡_, refl, sym, ap, subst, _∙_}
-use mathlib.Core.Bool.{Bool, true, false, _&&_, not}
+use mathlib.Core.Path.{_≡_, refl, sym, ap, ap₂, subst, _∙_}
+use mathlib.Core.Bool.{Bool, true, false, _||_, not}
 use mathlib.Core.List.{List}
 use mathlib.Core.Logic.{_≢_}
 use Prim.Native.Nat.{ℕ, zero, suc, _≤_}
@@ -15,55 +15,43 @@ use Rattle.rules.specs.declared.process.Next.{Next}
 use Rattle.rules.specs.declared.step.Step.{Step}
 use Rattle.rules.specs.declared.course.Course.{Course}
 use Rattle.rules.specs.declared.course.Course.the-variants.{Refuses, Takes}
-use Rattle.rules.specs.Limits.{greatestSize, deepestProcess, among}
+use Rattle.rules.specs.Limits.{deepestProcess}
 use Rattle.rules.specs.Records.{processAt, depthAt}
 use Rattle.rules.specs.Store.{placeOf, turned}
 use Rattle.rules.specs.Tally.{bitOf}
 use Rattle.rules.specs.Steps.{takerOf, isCut, eventOf}
 use Rattle.rules.specs.Idle.{idle}
-use Rattle.rules.specs.Refusals.{allOf, short, whole}
+use Rattle.rules.specs.Refusals.{allOf, short}
 use Rattle.rules.specs.Refusals as base
 use Rattle.rules.specs.Step.{idles, orIdle, unlessRefused}
 use Rattle.rules.specs.Depths.{datedIf, dated, damaged, tooDeep, refusal, course}
-use Rattle.rules.proofs.BoolLaws.{and-left, and-right, and-both}
+use Rattle.rules.proofs.BoolLaws.{or-left, or-right}
 use Rattle.rules.proofs.AllLaws.{all-each, all-every}
-use Rattle.rules.proofs.RowLaws.{among-true, among-in}
 use Rattle.rules.proofs.StoreLaws.{IsMessage, other}
-use Rattle.rules.proofs.SoundLaws.{Sound, facts-sound, whole-facts, facts-whole, Passed, PassedBy, by-passed, Taking, Fine, passed-fine}
+use Rattle.rules.proofs.SoundLaws.{Sound, sound-facts, facts-sound, Passed, PassedBy, by-passed, Taking, Fine, passed-fine}
 
 -- ---- a sound group whose processes are not too deep
 
-module _ (g : Group) where
-  -- what is tested of process i
-  fit-at : ℕ → Bool
-  fit-at i = whole (g .n) (processAt g i) && leb (depthAt g i) deepestProcess
-
-  pub deep-facts : damaged g ≡ false → Sound g × ((i : ℕ) → 1 ≤ i → i ≤ g .n → depthAt g i ≤ deepestProcess)
-  unfolding damaged fit-at
-  deep-facts e =
-      let both = not-false (among greatestSize (g .n) && allOf fit-at (g .n)) e in
-      let sized = among-true greatestSize (g .n) (and-left (among greatestSize (g .n)) (allOf fit-at (g .n)) both) in
-      let all = and-right (among greatestSize (g .n)) (allOf fit-at (g .n)) both in
-      let each : (i : ℕ) → 1 ≤ i → i ≤ g .n → (whole (g .n) (processAt g i) && leb (depthAt g i) deepestProcess) ≡ true =
-      λ i a b. all-each fit-at (g .n) i a b all in (
-        record {
-          low = sized .0;
-          high = sized .1;
-          each = λ i a b. whole-facts (g .n) (processAt g i) (and-left (whole (g .n) (processAt g i)) (leb (depthAt g i) deepestProcess) (each i a b));
-        },
-        λ i a b. leb-true (depthAt g i) deepestProcess (and-right (whole (g .n) (processAt g i)) (leb (depthAt g i) deepestProcess) (each i a b)),
-      )
-
-  pub facts-deep : Sound g → ((i : ℕ) → 1 ≤ i → i ≤ g .n → depthAt g i ≤ deepestProcess) → damaged g ≡ false
-  unfolding damaged fit-at
-  facts-deep h k =
-      let sized = among-in greatestSize (g .n) (h .low) (h .high) in
-      let all = all-every fit-at (g .n) (λ i a b. and-both (whole (g .n) (processAt g i)) (leb (depthAt g i) deepestProcess) (facts-whole (g .n) (processAt g i) (h .each i a b)) (le-leb (depthAt g i) deepestProcess (k i a b))) in
-      ap not (and-both (among greatestSize (g .n)) (allOf fit-at (g .n)) sized all)
-
 -- it is sound without its depths
 pub deep-sound : (g : Group) → damaged g ≡ false → base.damaged g ≡ false
-deep-sound g e = facts-sound g (deep-facts g e .0)
+unfolding damaged
+deep-sound g e = or-left (base.damaged g) _ e
+
+module _ (g : Group) where
+  -- what is tested of process i
+  abbrev shallow-at : ℕ → Bool
+  shallow-at i = leb (depthAt g i) deepestProcess
+
+  pub deep-facts : damaged g ≡ false → Sound g × ((i : ℕ) → 1 ≤ i → i ≤ g .n → depthAt g i ≤ deepestProcess)
+  unfolding damaged
+  deep-facts e =
+      let all = not-false (allOf shallow-at (g .n)) (or-right (base.damaged g) (not (allOf shallow-at (g .n))) e) in
+      (sound-facts g (deep-sound g e), λ i a b. leb-true (depthAt g i) deepestProcess (all-each shallow-at (g .n) i a b all))
+
+  pub facts-deep : Sound g → ((i : ℕ) → 1 ≤ i → i ≤ g .n → depthAt g i ≤ deepestProcess) → damaged g ≡ false
+  unfolding damaged
+  facts-deep h k =
+      ap₂ _||_ (facts-sound g h) (ap not (all-every shallow-at (g .n) (λ i a b. le-leb (depthAt g i) deepestProcess (k i a b))))
 
 -- ---- the table with the request's rows
 

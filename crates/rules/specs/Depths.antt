@@ -2,7 +2,7 @@
 -- A step is refused by the table with the rows of the request; its course, its records, its messages and its counts are those of `Step`, and the depths stand beside them. So with the
 -- depths forgotten the run is the run of before: specs/DepthRun.antt states it.
 use mathlib.Core.Path.{_≡_}
-use mathlib.Core.Bool.{Bool, true, false, _&&_, not}
+use mathlib.Core.Bool.{Bool, true, false, _&&_, _||_, not}
 use mathlib.Core.List.{List}
 use Prim.Native.Nat.{ℕ, zero, suc, _+_, max}
 use lib.Dec.{eqb, leb, ltb}
@@ -15,13 +15,14 @@ use Rattle.rules.specs.declared.step.Step.{Step}
 use Rattle.rules.specs.declared.step.Taken.{Taken}
 use Rattle.rules.specs.declared.course.Course.{Course}
 use Rattle.rules.specs.declared.course.Course.the-variants.{Idles, Refuses, Takes}
-use Rattle.rules.specs.Limits.{greatestSize, storeLength, deepestMessage, deepestProcess, among}
-use Rattle.rules.specs.Records.{processAt, depthAt, withDepth, blankGroup}
+use Rattle.rules.specs.Limits.{storeLength, deepestMessage, deepestProcess}
+use Rattle.rules.specs.Records.{depthAt, withDepth, blankGroup}
 use Rattle.rules.specs.Store.{placeOf, handOver, cleared}
 use Rattle.rules.specs.Answers.{Said, said, saysRefused}
 use Rattle.rules.specs.Steps.{takerOf, delivers, slotOf}
 use Rattle.rules.specs.Idle.{idle}
-use Rattle.rules.specs.Refusals.{row, allOf, short, miscounted, whole, refusalBy}
+use Rattle.rules.specs.Refusals.{row, allOf, short, miscounted, refusalBy}
+use Rattle.rules.specs.Refusals as table
 use Rattle.rules.specs.Start.{firstMessage, begun}
 use Rattle.rules.specs.Step.{unlessRefused}
 use Rattle.rules.specs.Step as base
@@ -72,7 +73,7 @@ datedBoth i x k l d = dated i (x .second) k (handOver i (x .first) l) (dated i (
 
 -- 2: "also for a process of 1..n whose depth is above 3,088"
 unfoldable pub damaged : Group → Bool
-damaged g = not (among greatestSize (g .n) && allOf (λ i. whole (g .n) (processAt g i) && leb (depthAt g i) deepestProcess) (g .n))
+damaged g = table.damaged g || not (allOf (λ i. leb (depthAt g i) deepestProcess) (g .n))
 
 -- 14: "where the delivered message's depth is above 3,087"
 unfoldable pub tooDeep : List ℕ → Step → Bool
