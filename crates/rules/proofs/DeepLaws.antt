@@ -21,7 +21,7 @@ use Rattle.rules.specs.Records.{withProcess, depthAt, withDepth, Sized, 
 use Rattle.rules.specs.Store.{handOver, cleared}
 use Rattle.rules.specs.Answers.{saysRefused}
 use Rattle.rules.specs.Steps.{takerOf, delivers}
-use Rattle.rules.specs.Refusals.{row, short, miscounted}
+use Rattle.rules.specs.Refusals.{row, short, miscounted, startRefusalBy}
 use Rattle.rules.specs.Start.{startedTo, firstMessage, begun}
 use Rattle.rules.specs.Step.{unlessRefused, handOvers, sentBy}
 use Rattle.rules.specs.Step as base
@@ -150,7 +150,7 @@ module _ (g : Group) (l d : List ℕ) (s : Step) where
 -- what it means that no row refuses
 pub deep-start-passed : (vs l d : List ℕ) → startRefusal vs l d ≡ 0
     → (storeLength ≤ length l) × (storeLength ≤ length d) × (1 ≤ length vs) × (length vs ≤ greatestSize)
-unfolding startRefusal short miscounted
+unfolding startRefusal startRefusalBy short miscounted
 deep-start-passed vs l d e =
     let a = row-zero (ltb (length l) storeLength) 10 (row (ltb (length d) storeLength) 14 (row (not (among greatestSize (length vs))) 1 0)) e in
     let c = row-zero (ltb (length d) storeLength) 13 (row (not (among greatestSize (length vs))) 1 0) (a .1) in

@@ -27,7 +27,7 @@ use Rattle.rules.specs.Answers.{Outcome, refused}
 use Rattle.rules.specs.Events.{takes, enters, joinsEstimates, joinsSuspicions, decides, secondPhase, marks, paused, crashed, recovered, quiet, changed, jumpsIf, jumps, relaysIf, relays, decidesIf, decidesAt, goesToPhase2, goesToPhase2If, toPhase2, adoptsIf, adopts, opensIf, opens, entersNextIf, entersNextAt, onE, onS, onF, onDecision, onSuspect, onPause, onCrash, onRecover, cutIf}
 use Rattle.rules.specs.Steps.{takerOf, numbersOf, roundOf, delivers, isCut, entryIn, eventOf}
 use Rattle.rules.specs.Idle.{idle}
-use Rattle.rules.specs.Refusals.{row, allOf, every, short, whole, damaged, strange, late, down, unsent, misnamed, impossible, recoversPast, entersPast, refusalBy, refusal, miscounted, startRefusal}
+use Rattle.rules.specs.Refusals.{row, allOf, every, short, whole, damaged, strange, late, down, unsent, misnamed, impossible, recoversPast, entersPast, refusalBy, refusal, miscounted, startRefusalBy, startRefusal}
 use Rattle.rules.specs.Step.{idles, orIdle, unlessRefused, course, handOvers, sentBy, settled, stepped}
 use Rattle.rules.specs.Start.{fresh, startedTo, unlessRefusedStart, begun, started}
 use Rattle.rules.proofs.BoolLaws.{and-left, and-right, and-both, or-case}
@@ -676,7 +676,7 @@ module _ (g : Group) (l : List ℕ) (s : Step) where
 
 -- what it means that no row refuses
 pub start-passed : (vs l : List ℕ) → startRefusal vs l ≡ 0 → (storeLength ≤ length l) × (1 ≤ length vs) × (length vs ≤ greatestSize)
-unfolding startRefusal short miscounted
+unfolding startRefusal startRefusalBy row short miscounted
 start-passed vs l e =
     let a = row-zero (ltb (length l) storeLength) 10 (row (not (among greatestSize (length vs))) 1 0) e in
     let b = row-zero (not (among greatestSize (length vs))) 0 0 (a .1) in

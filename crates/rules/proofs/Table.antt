@@ -13,7 +13,7 @@ use Rattle.rules.specs.Events.{onPause, onCrash, onRecover, cutIf}
 use Rattle.rules.specs.Steps.{takerOf, numbersOf, roundOf, delivers, slotOf, isCut, entryIn, eventOf}
 use Rattle.rules.specs.Idle.{pastFor, at, idleE, idleS, idleF, idle}
 use Rattle.rules.specs.Refusals.{row, allOf, every, short, miscounted, whole, damaged, strange, late, isRecover, down, unsent}
-use Rattle.rules.specs.Refusals.{misnamed, maySuspect, impossible, recoversPast, entersPast, startRefusal, refusalBy, refusal}
+use Rattle.rules.specs.Refusals.{misnamed, maySuspect, impossible, recoversPast, entersPast, startRefusalBy, startRefusal, refusalBy, refusal}
 use Rattle.rules.specs.Start.{fresh, startedTo, opened, begun, unlessRefusedStart, started}
 use Rattle.rules.specs.Step.{idles, orIdle, unlessRefused, course, handOvers, sentBy, decidesNow, settled, stepped}
 use Rattle.rules.specs.Run.{startState}
@@ -35,7 +35,7 @@ unfolding ones
     takerOf numbersOf roundOf delivers slotOf isCut entryIn eventOf
     pastFor at idleE idleS idleF idle
     row among allOf every short miscounted whole damaged strange late isRecover down unsent
-    misnamed maySuspect impossible recoversPast entersPast startRefusal refusalBy refusal
+    misnamed maySuspect impossible recoversPast entersPast startRefusalBy startRefusal refusalBy refusal
     fresh startedTo opened begun unlessRefusedStart started
     idles orIdle unlessRefused course handOvers sentBy decidesNow settled stepped
     startState

@@ -21,7 +21,7 @@ use Rattle.rules.specs.Store.{placeOf, handOver, cleared}
 use Rattle.rules.specs.Answers.{Said, said, saysRefused}
 use Rattle.rules.specs.Steps.{takerOf, delivers, slotOf}
 use Rattle.rules.specs.Idle.{idle}
-use Rattle.rules.specs.Refusals.{row, allOf, short, miscounted, refusalBy}
+use Rattle.rules.specs.Refusals.{allOf, short, startRefusalBy, refusalBy}
 use Rattle.rules.specs.Refusals as table
 use Rattle.rules.specs.Start.{firstMessage, begun}
 use Rattle.rules.specs.Step.{unlessRefused}
@@ -85,7 +85,7 @@ refusal g l d s = refusalBy (short d) (damaged g) (tooDeep d s) g l s
 
 -- "for start: 11, 14, 1"
 unfoldable pub startRefusal : List ℕ → List ℕ → List ℕ → ℕ
-startRefusal vs l d = row (short l) 11 (row (short d) 14 (row (miscounted vs) 1 0))
+startRefusal vs l d = startRefusalBy (short d) vs l
 
 -- ---- a start and a step, whole
 

@@ -116,9 +116,13 @@ entersPast g l (Pause i) = false
 entersPast g l (Crash i) = false
 entersPast g l (Recover i) = false
 
--- "Order for start: 11, 1."
+-- "Order for start: 11, 1." And with the row of request 2026-06, "for start: 11, 14, 1": whether the second store is short is told
+unfoldable pub startRefusalBy : Bool → List ℕ → List ℕ → ℕ
+startRefusalBy shortDepths vs l = row (short l) 11 (row shortDepths 14 (row (miscounted vs) 1 0))
+
+-- without depths
 unfoldable pub startRefusal : List ℕ → List ℕ → ℕ
-startRefusal vs l = row (short l) 11 (row (miscounted vs) 1 0)
+startRefusal vs l = startRefusalBy false vs l
 
 -- "For steps: as listed from 11, without 1." And "13, after 7"; and with the two rows of request 2026-06, "14 right after 11" and "right after the entry's 2": whether the second store
 -- is short, whether the group is damaged, and whether the delivered message is too deep, is told

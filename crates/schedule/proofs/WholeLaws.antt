@@ -10,7 +10,7 @@ use lib.ListN.{length, take}
 use borrow.Author.Tests.{le-ltb, ltb-false, eqb-false, ne-eqb}
 use Rattle.rules.specs.Limits.{greatestSize, storeLength}
 use Rattle.rules.specs.Records.{Sized}
-use Rattle.rules.specs.Refusals.{row, short, miscounted, refusalBy}
+use Rattle.rules.specs.Refusals.{row, short, miscounted, startRefusalBy, refusalBy}
 use Rattle.rules.specs.Answers.{Said, saysRefused}
 use Rattle.rules.specs.Depths.{DeepOutcome, outcome, damaged, refusal, startRefusal, started, stepped}
 use Rattle.rules.specs.DepthRun.{DeepState, stateOf, startState, next, after, answers}
@@ -154,7 +154,7 @@ module _ (vs l d : List ℕ) (some : 1 ≤ length vs) (few : length vs ≤ great
   same-long = (ap (λ (o : DeepOutcome). length (o .store)) e ∙ starts .store, ap (λ (o : DeepOutcome). length (o .depths)) e ∙ starts .depths)
 
   passes : storeLength ≤ length l₁ → storeLength ≤ length d₁ → startRefusal vs l d ≡ 0
-  unfolding startRefusal row short miscounted
+  unfolding startRefusal startRefusalBy row short miscounted
   passes h k =
       rw (le-ltb (length l) storeLength (omega (arith, same-long)), le-ltb (length d) storeLength (omega (arith, same-long)), among-in greatestSize (length vs) some few)
 

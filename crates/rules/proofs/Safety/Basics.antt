@@ -9,7 +9,7 @@ use borrow.Author.Tests.{le-ltb}
 use Rattle.rules.specs.declared.step.Step.{Step}
 use Rattle.rules.specs.Limits.{greatestSize, storeLength}
 use Rattle.rules.specs.Records.{Sized}
-use Rattle.rules.specs.Refusals.{row, short, miscounted, damaged, startRefusal}
+use Rattle.rules.specs.Refusals.{row, short, miscounted, damaged, startRefusalBy, startRefusal}
 use Rattle.rules.specs.Answers.{Outcome}
 use Rattle.rules.specs.Start.{started, begun}
 use Rattle.rules.specs.Run.{State, stateOf, startState, next, after}
@@ -49,7 +49,7 @@ begun-long vs l e h = omega (arith, ap (λ (o : Outcome). length (o .store)) e, 
 
 -- a start of a run is not refused
 pub not-refused : (vs l : List ℕ) → Begins vs l → startRefusal vs l ≡ 0
-unfolding startRefusal row short miscounted
+unfolding startRefusal startRefusalBy row short miscounted
 not-refused vs l b =
     rw (le-ltb (length l) storeLength (b .long), among-in greatestSize (length vs) (b .some) (b .few))
 

@@ -23,7 +23,7 @@ use Rattle.rules.specs.Store.{placeOf, handOver, turned, cleared, sentIn
 use Rattle.rules.specs.Answers.{Said, saysApplied}
 use Rattle.rules.specs.Steps.{takerOf, numbersOf, delivers, slotOf, isCut, eventOf}
 use Rattle.rules.specs.Idle.{idle}
-use Rattle.rules.specs.Refusals.{row, every, short, miscounted, strange, late, refusalBy}
+use Rattle.rules.specs.Refusals.{row, every, short, miscounted, strange, late, refusalBy, startRefusalBy}
 use Rattle.rules.specs.Refusals as table
 use Rattle.rules.specs.Start.{firstMessage, begun}
 use Rattle.rules.specs.Step.{idles, orIdle, unlessRefused, handOvers, sentBy, decidesNow}
@@ -309,7 +309,7 @@ module _ (vs : List ℕ) (a : DeepState) (h : DeepBasic vs a) (s : Step) where
 -- ---- the start
 
 pub not-refused-deep : (vs l d : List ℕ) → DeepBegins vs l d → startRefusal vs l d ≡ 0
-unfolding startRefusal row short miscounted
+unfolding startRefusal startRefusalBy row short miscounted
 not-refused-deep vs l d b =
     rw (le-ltb (length l) storeLength (b .begins .long), le-ltb (length d) storeLength (b .long), among-in greatestSize (length vs) (b .begins .some) (b .begins .few))
 

@@ -2,7 +2,7 @@
 use Rattle.rules.proofs.RowLaws.{among-in}
 use Rattle.rules.specs.Depths.{startRefusal, DeepOutcome, outcome, opened, unlessRefusedStart, started}
 use Rattle.rules.specs.Start.{begun}
-use Rattle.rules.specs.Refusals.{row, short, miscounted}
+use Rattle.rules.specs.Refusals.{row, short, miscounted, startRefusalBy}
 use Rattle.rules.specs.Answers.{said, saysApplied, saysRefused}
 use Rattle.rules.specs.Records.{blankGroup}
 use Rattle.rules.specs.Limits.{storeLength, among}
@@ -38,23 +38,23 @@ module _ (vs l d : List ℕ) where
   refused g k = outcome g l d (saysRefused k)
 
   too-short : {g : Group} → g ≡ blankGroup 0 → length l < storeLength → refused g 11 ≡ started vs l d
-  unfolding started unlessRefusedStart startRefusal row short
+  unfolding started unlessRefusedStart startRefusal startRefusalBy row short
   too-short e h = ap (λ (g : Group). refused g 11) e ∙ rw (lt-ltb (length l) storeLength h)
 
   module _ (long : storeLength ≤ length l) where
     too-few : {g : Group} → g ≡ blankGroup 0 → length d < storeLength → refused g 14 ≡ started vs l d
-    unfolding started unlessRefusedStart startRefusal row short
+    unfolding started unlessRefusedStart startRefusal startRefusalBy row short
     too-few e h = ap (λ (g : Group). refused g 14) e ∙ rw (le-ltb (length l) storeLength long, lt-ltb (length d) storeLength h)
 
     module _ (deep-long : storeLength ≤ length d) where
       not-counted : {g : Group} → g ≡ blankGroup 0 → miscounted vs ≡ true → refused g 1 ≡ started vs l d
-      unfolding started unlessRefusedStart startRefusal row short
+      unfolding started unlessRefusedStart startRefusal startRefusalBy row short
       not-counted e m =
           ap (λ (g : Group). refused g 1) e ∙ rw (le-ltb (length l) storeLength long, le-ltb (length d) storeLength deep-long, m)
 
       counted : {g : Group} {last deeper : List ℕ} → miscounted vs ≡ false → g ≡ begun vs l .group
           → (last ≡ begun vs l .store) × (deeper ≡ opened (getD vs 0 0) l d) → outcome g last deeper (saysApplied 1 false) ≡ started vs l d
-      unfolding started unlessRefusedStart startRefusal row short begun
+      unfolding started unlessRefusedStart startRefusal startRefusalBy row short begun
       counted m e h =
           (λ t. outcome (e t) (h .0 t) (h .1 t) (saysApplied 1 false))
           ∙ rw (le-ltb (length l) storeLength long, le-ltb (length d) storeLength deep-long, m)
