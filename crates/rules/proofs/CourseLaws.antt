@@ -16,7 +16,6 @@ use Rattle.rules.specs.declared.process.Message.the-variants.{Nothing, E
 use Rattle.rules.specs.declared.step.Step.{Step}
 use Rattle.rules.specs.declared.step.Step.the-variants.{DeliverE, DeliverS, DeliverF, DeliverDecision, Suspect, Pause, Crash, Recover}
 use Rattle.rules.specs.declared.course.Address.the-variants.{Misses, At}
-use Rattle.rules.specs.declared.course.Course.the-variants.{Idles, Refuses, Takes}
 use Rattle.rules.specs.Limits.{greatestSize, lastRound, tooMany, storeLength, among}
 use Rattle.rules.specs.Records.{processAt, withProcess, withDepth}
 use Rattle.rules.specs.Store.{proposerOf, placeOf, handOver, turned}
@@ -25,10 +24,10 @@ use Rattle.rules.specs.Events.{cutIf}
 use Rattle.rules.specs.Steps.{takerOf, numbersOf, roundOf, delivers, slotOf, isCut, entryIn, eventOf}
 use Rattle.rules.specs.Idle.{idle}
 use Rattle.rules.specs.Refusals.{row, every, short, strange, late, isRecover, down, unsent, misnamed, maySuspect, impossible, recoversPast, entersPast, refusalBy}
-use Rattle.rules.specs.Step.{orIdle, unlessRefused, handOvers, sentBy, decidesNow}
+use Rattle.rules.specs.Step.{Idles, Refuses, Takes, orIdle, unlessRefused, handOvers, sentBy, decidesNow}
 use Rattle.rules.specs.Step as base
-use Rattle.rules.specs.Depths.{deliveredDepth, raised, depthAfter, dated, datedBoth, damaged, tooDeep, refusal, outcome, course, deepened, datedBy, settled, stepped}
-use Rattle.rules.specs.Parts.{numberRows, unlessMissed, addressOf, heldRows, unlessPast, orPast, orImpossible, orUp, lastCourse, unlessHeld, heldCourse, Ready, Numbered, Ranged, Dated, Handable}
+use Rattle.rules.specs.Depths.{deliveredDepth, depthAfter, datedBoth, damaged, tooDeep, refusal, outcome, course, deepened, datedBy, settled, stepped}
+use Rattle.rules.specs.Parts.{numberRows, unlessMissed, addressOf, heldRows, unlessPast, orPast, orImpossible, orUp, lastCourse, unlessHeld, heldCourse, Ready, Numbered, Handable, HandsOverBoth}
 use Rattle.rules.proofs.RowLaws.{orElse, number-else, held-else, Delivered, delivered-zero, owned-zero, held-zero, among-in}
 use Rattle.rules.proofs.StepLaws.{up-yes, up-many, up-no}
 use Rattle.rules.proofs.SoundLaws.{sound-facts}
@@ -247,16 +246,6 @@ numbered g l d s h z hp =
       numbers = z;
     }
 
-message-ranged : (n i j r : ℕ) → n ≤ greatestSize → Delivered n i j r
-    → row (not (among greatestSize i && (among greatestSize j && true))) 3 (row (ltb lastRound r) 4 0) ≡ 0
-unfolding row
-message-ranged n i j r h d =
-    rw (among-in greatestSize i (d .to-low) (le-trans (d .to-high) h), among-in greatestSize j (d .from-low) (le-trans (d .from-high) h), le-ltb lastRound r (d .round))
-
-own-ranged : (n i : ℕ) → n ≤ greatestSize → (1 ≤ i) × (i ≤ n) → row (not (among greatestSize i && true)) 3 (row (ltb lastRound 0) 4 0) ≡ 0
-unfolding row
-own-ranged n i h o = rw (among-in greatestSize i (o .0) (le-trans (o .1) h))
-
 -- of a message: its sender and its round
 abbrev Numbers : ℕ → ℕ → ℕ → Type 0
 Numbers n j r = (1 ≤ j) × (j ≤ greatestSize) × (r ≤ lastRound)
@@ -280,18 +269,6 @@ pub held-names : (n : ℕ) (up : Bool) (e k : ℕ) (s : Step) → n ≤ greatest
 held-names n up e k s h z d =
     le-trans (held-zero n up e k (isRecover s) (ap (λ (b : Bool). heldRows n up e k b (isRecover s)) (sym d) ∙ z) .1) h
 
--- a step whose numbers are of 1..n has numbers of 1..16
-pub ranged : (n : ℕ) (s : Step) → n ≤ greatestSize → numberRows n s ≡ 0 → Ranged s
-unfolding numberRows numbersOf every late roundOf row
-ranged n (DeliverE i j r c) h z = message-ranged n i j r h (delivered-zero n i j r z)
-ranged n (DeliverS i j r c) h z = message-ranged n i j r h (delivered-zero n i j r z)
-ranged n (DeliverF i j r c) h z = message-ranged n i j r h (delivered-zero n i j r z)
-ranged n (DeliverDecision i j c) h z = message-ranged n i j 0 h (delivered-zero n i j 0 z)
-ranged n (Suspect i c) h z = own-ranged n i h (owned-zero n i z)
-ranged n (Pause i) h z = own-ranged n i h (owned-zero n i z)
-ranged n (Crash i) h z = own-ranged n i h (owned-zero n i z)
-ranged n (Recover i) h z = own-ranged n i h (owned-zero n i z)
-
 -- ---- the outcome of a course
 
 unsent-small : (b : Bool) → bitOf b ≤ 1
@@ -308,16 +285,15 @@ turned-small i (F r q v) l = unsent-small (eqb (getD l (placeOf i (F r q v)) 0) 
 turned-small i (Decision v) l = unsent-small (eqb (getD l (placeOf i (Decision v)) 0) 0)
 
 -- the record and the depth put back, the messages handed over and what is counted make the outcome of a step that is taken
-pub finishes : (g : Group) (i k : ℕ) (x : Next) (l d : List ℕ) {after : Group} {once last deep deeper : List ℕ} {a b : ℕ} {t : Bool}
-    → after ≡ withDepth (withProcess g i (x .process)) i k
-    → (once ≡ handOver i (x .first) l) × (deep ≡ dated i (x .first) k l d) × (a ≡ turned i (x .first) l)
-    → (last ≡ handOver i (x .second) once) × (deeper ≡ dated i (x .second) k once deep) × (b ≡ turned i (x .second) once)
+pub finishes : (g : Group) (i k : ℕ) (x : Next) (l d : List ℕ) {depth : ℕ} {after : Group} {last deeper : List ℕ} {sent : ℕ} {t : Bool}
+    → depth ≡ k
+    → after ≡ withDepth (withProcess g i (x .process)) i depth
+    → HandsOverBoth i (x .first) (x .second) depth l d last deeper sent
     → t ≡ decidesNow (processAt g i) (x .process)
-    → outcome after last deeper (saysApplied (a + b) t) ≡ settled g l d k (Takes i x)
+    → outcome after last deeper (saysApplied sent t) ≡ settled g l d k (Takes i x)
 unfolding settled base.settled deepened datedBy datedBoth handOvers sentBy
-finishes g i k x l d hg h m ht = λ t.
-    outcome (hg t) ((m .0 ∙ ap (handOver i (x .second)) (h .0)) t) ((m .1 ∙ ap₂ (dated i (x .second) k) (h .0) (h .1)) t)
-    (saysApplied (ap₂ _+_ (h .2) (m .2 ∙ ap (turned i (x .second)) (h .0)) t) (ht t))
+finishes g i k x l d e hg h ht =
+    (λ t. outcome (hg t) (h .store t) (h .depths t) (saysApplied (h .turns t) (ht t))) ∙ ap (λ (j : ℕ). settled g l d j (Takes i x)) e
 
 module _ (g : Group) (l d : List ℕ) (s : Step) where
   pub idle-outcome : course g l d s ≡ Idles → outcome g l d saysIdle ≡ stepped g l d s
@@ -343,20 +319,6 @@ module _ (g : Group) (l d : List ℕ) (s : Step) where
         second = t .second;
         long = h .long;
         deep-long = h .deep-long;
-      }
-
-  -- and the depth of the process that takes it can be raised
-  pub takes-dated : {i : ℕ} {x : Next} → Ready g l d → course g l d s ≡ Takes i x → Dated i d s
-  unfolding numberRows strange row
-  takes-dated {i} {x} h e =
-      let t = course-takes g l d s e in
-      record {
-        taker = t .2;
-        low = t .0 .low;
-        high = t .0 .small;
-        numbers = ranged (g .n) s (sound-facts g (deep-sound g (h .sound)) .high) (rw (t .1 .known, t .1 .early));
-        long = h .deep-long;
-        shallow = t .1 .shallow;
       }
 
 -- ---- refusals 11, 14 of a short store and the group's 2

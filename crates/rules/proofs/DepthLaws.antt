@@ -13,8 +13,7 @@ use Rattle.rules.specs.declared.process.Message.{Message}
 use Rattle.rules.specs.declared.process.Message.the-variants.{Nothing, E, S, F, Decision}
 use Rattle.rules.specs.declared.process.Next.{Next}
 use Rattle.rules.specs.declared.step.Step.{Step}
-use Rattle.rules.specs.declared.course.Course.{Course}
-use Rattle.rules.specs.declared.course.Course.the-variants.{Refuses, Takes}
+use Rattle.rules.specs.Step.{Course, Refuses, Takes}
 use Rattle.rules.specs.Limits.{deepestProcess}
 use Rattle.rules.specs.Records.{processAt, depthAt}
 use Rattle.rules.specs.Store.{placeOf, turned}

@@ -12,6 +12,7 @@ pub mod ForgetLaws
 pub mod DeepLaws
 pub mod StepLaws
 pub mod CourseLaws
+pub mod WayLaws
 pub mod Unique
 pub mod Table
 pub mod DepthTable

@@ -5,33 +5,33 @@ use Prim.Native.Nat.{ℕ}
 use lib.Dec.{ltb}
 use Rattle.rules.specs.declared.process.Process.{Process}
 use Rattle.rules.specs.declared.process.Next.{Next}
-use Rattle.rules.specs.declared.course.Course.the-variants.{Refuses, Takes}
+use Rattle.rules.specs.declared.course.Way.{Way}
 use Rattle.rules.specs.Limits.{lastRound, tooMany}
 use Rattle.rules.specs.Events.{cutIf, onSuspect, onRecover}
-use Rattle.rules.specs.Step.{idles, orIdle}
-use Rattle.rules.specs.Parts.{orPast, unlessPast, orImpossible, unlessMany, orUp}
+use Rattle.rules.specs.Step.{Refuses, Takes, idles, orIdle}
+use Rattle.rules.specs.Parts.{orPast, unlessPast, orImpossible, unlessMany, orUp, lifted, liftUnless}
 
-module _ (cut : Bool) (i : ℕ) (p : Process) (x : Next) where
-  -- a delivery that is idle, and one that is not
-  pub idle-yes : {b : Bool} → b ≡ true → idles cut i p ≡ orIdle b cut i p x
-  unfolding orIdle
-  idle-yes e = rw e
+module _ (cut : Bool) (i : ℕ) (p : Process) (x : Next) (k : ℕ) where
+  -- a delivery that is idle, and one that is heard and lifts the depth to k
+  pub way-idle : {b : Bool} → b ≡ true → lifted 0 (idles cut i p) ≡ lifted (liftUnless b k) (orIdle b cut i p x)
+  unfolding orIdle liftUnless
+  way-idle e = rw e
 
-  pub idle-no : {b : Bool} → b ≡ false → Takes i (cutIf cut x) ≡ orIdle b cut i p x
-  unfolding orIdle
-  idle-no e = rw e
+  pub way-heard : {b : Bool} → b ≡ false → Way.Takes i (cutIf cut x) k ≡ lifted (liftUnless b k) (orIdle b cut i p x)
+  unfolding orIdle liftUnless lifted
+  way-heard e = rw e
 
-  -- an F that is idle, one that would take the process past the last round, and one that is taken
-  pub past-idle : {b : Bool} → b ≡ true → idles cut i p ≡ orPast b cut i p x
-  unfolding orPast
+  -- an F that is idle, one that would take the process past the last round, and one that is heard
+  pub past-idle : {b : Bool} → b ≡ true → lifted 0 (idles cut i p) ≡ lifted (liftUnless b k) (orPast b cut i p x)
+  unfolding orPast liftUnless
   past-idle e = rw e
 
-  pub past-yes : {b : Bool} → b ≡ false → ltb lastRound (x .process .round) ≡ true → Refuses 8 ≡ orPast b cut i p x
-  unfolding orPast unlessPast
+  pub past-yes : {b : Bool} → b ≡ false → ltb lastRound (x .process .round) ≡ true → Way.Refuses 8 ≡ lifted (liftUnless b k) (orPast b cut i p x)
+  unfolding orPast unlessPast lifted
   past-yes e t = rw (e, t)
 
-  pub past-no : {b : Bool} → b ≡ false → ltb lastRound (x .process .round) ≡ false → Takes i (cutIf cut x) ≡ orPast b cut i p x
-  unfolding orPast unlessPast
+  pub past-no : {b : Bool} → b ≡ false → ltb lastRound (x .process .round) ≡ false → Way.Takes i (cutIf cut x) k ≡ lifted (liftUnless b k) (orPast b cut i p x)
+  unfolding orPast unlessPast liftUnless lifted
   past-no e t = rw (e, t)
 
 module _ (cut : Bool) (i : ℕ) (p : Process) where

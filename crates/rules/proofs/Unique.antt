@@ -7,7 +7,7 @@ use Rattle.rules.specs.declared.group.Group.{Group}
 use Rattle.rules.specs.declared.step.Step.{Step}
 use Rattle.rules.specs.declared.step.Answer.{Answer}
 use Rattle.rules.specs.declared.step.Answer.the-variants.{Idle, Applied, Refused}
-use Rattle.rules.specs.declared.step.Taken.{Taken}
+use Rattle.rules.specs.declared.group.Taken.{Taken}
 use Rattle.rules.specs.Answers.{Said, said}
 use Rattle.rules.specs.Depths.{DeepOutcome, outcome, started, stepped, Starts, Steps}
 

@@ -12,9 +12,8 @@ use Rattle.rules.specs.declared.process.Message.{Message}
 use Rattle.rules.specs.declared.process.Message.the-variants.{Nothing, E, S, F, Decision}
 use Rattle.rules.specs.declared.process.Next.{Next}
 use Rattle.rules.specs.declared.step.Step.{Step}
-use Rattle.rules.specs.declared.step.Taken.{Taken}
-use Rattle.rules.specs.declared.course.Course.{Course}
-use Rattle.rules.specs.declared.course.Course.the-variants.{Idles, Refuses, Takes}
+use Rattle.rules.specs.declared.group.Taken.{Taken}
+use Rattle.rules.specs.Step.{Course, Idles, Refuses, Takes}
 use Rattle.rules.specs.Limits.{storeLength, deepestMessage, deepestProcess}
 use Rattle.rules.specs.Records.{depthAt, withDepth, blankGroup}
 use Rattle.rules.specs.Store.{placeOf, handOver, cleared}

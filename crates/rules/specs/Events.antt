@@ -11,6 +11,7 @@ use Rattle.rules.specs.declared.process.Next.{Next}
 use Rattle.rules.specs.declared.process.Message.{Message}
 use Rattle.rules.specs.declared.process.Message.the-variants.{Nothing, E, S, F, Decision}
 use Rattle.rules.specs.Limits.{coordinator}
+use Rattle.rules.specs.Records.{processWith}
 use Rattle.rules.specs.Tally.{joined, meets}
 
 -- ---- records with some fields replaced
@@ -18,182 +19,52 @@ use Rattle.rules.specs.Tally.{joined, meets}
 -- p with the estimate (q, v)
 unfoldable pub takes : ℕ → ℕ → Process → Process
 takes q v p =
-    record {
-      first = p .first;
-      round = p .round;
-      phase = p .phase;
-      proposer = q;
-      value = v;
-      marked = p .marked;
-      decided = p .decided;
-      decision = p .decision;
-      recoveries = p .recoveries;
-      up = p .up;
-      estimates = p .estimates;
-      suspicions = p .suspicions;
-    }
+    processWith (p .first) (p .round) (p .phase) q v (p .marked) (p .decided) (p .decision) (p .recoveries) (p .up) (p .estimates) (p .suspicions)
 
 -- p in round r: "phase 1, no mark, empty tallies"
 unfoldable pub enters : ℕ → Process → Process
 enters r p =
-    record {
-      first = p .first;
-      round = r;
-      phase = 1;
-      proposer = p .proposer;
-      value = p .value;
-      marked = false;
-      decided = p .decided;
-      decision = p .decision;
-      recoveries = p .recoveries;
-      up = p .up;
-      estimates = 0;
-      suspicions = 0;
-    }
+    processWith (p .first) r 1 (p .proposer) (p .value) false (p .decided) (p .decision) (p .recoveries) (p .up) 0 0
 
 -- j in the tally of estimates heard
 unfoldable pub joinsEstimates : ℕ → Process → Process
 joinsEstimates j p =
-    record {
-      first = p .first;
-      round = p .round;
-      phase = p .phase;
-      proposer = p .proposer;
-      value = p .value;
-      marked = p .marked;
-      decided = p .decided;
-      decision = p .decision;
-      recoveries = p .recoveries;
-      up = p .up;
-      estimates = joined (p .estimates) j;
-      suspicions = p .suspicions;
-    }
+    processWith (p .first) (p .round) (p .phase) (p .proposer) (p .value) (p .marked) (p .decided) (p .decision) (p .recoveries) (p .up) (joined (p .estimates) j) (p .suspicions)
 
 -- j in the tally of suspicions heard
 unfoldable pub joinsSuspicions : ℕ → Process → Process
 joinsSuspicions j p =
-    record {
-      first = p .first;
-      round = p .round;
-      phase = p .phase;
-      proposer = p .proposer;
-      value = p .value;
-      marked = p .marked;
-      decided = p .decided;
-      decision = p .decision;
-      recoveries = p .recoveries;
-      up = p .up;
-      estimates = p .estimates;
-      suspicions = joined (p .suspicions) j;
-    }
+    processWith (p .first) (p .round) (p .phase) (p .proposer) (p .value) (p .marked) (p .decided) (p .decision) (p .recoveries) (p .up) (p .estimates) (joined (p .suspicions) j)
 
 -- p decided v
 unfoldable pub decides : ℕ → Process → Process
 decides v p =
-    record {
-      first = p .first;
-      round = p .round;
-      phase = p .phase;
-      proposer = p .proposer;
-      value = p .value;
-      marked = p .marked;
-      decided = true;
-      decision = v;
-      recoveries = p .recoveries;
-      up = p .up;
-      estimates = p .estimates;
-      suspicions = p .suspicions;
-    }
+    processWith (p .first) (p .round) (p .phase) (p .proposer) (p .value) (p .marked) true v (p .recoveries) (p .up) (p .estimates) (p .suspicions)
 
 -- p in phase 2, "its estimate tally is emptied"
 unfoldable pub secondPhase : Process → Process
 secondPhase p =
-    record {
-      first = p .first;
-      round = p .round;
-      phase = 2;
-      proposer = p .proposer;
-      value = p .value;
-      marked = p .marked;
-      decided = p .decided;
-      decision = p .decision;
-      recoveries = p .recoveries;
-      up = p .up;
-      estimates = 0;
-      suspicions = p .suspicions;
-    }
+    processWith (p .first) (p .round) 2 (p .proposer) (p .value) (p .marked) (p .decided) (p .decision) (p .recoveries) (p .up) 0 (p .suspicions)
 
 -- p with the suspicion mark
 unfoldable pub marks : Process → Process
 marks p =
-    record {
-      first = p .first;
-      round = p .round;
-      phase = p .phase;
-      proposer = p .proposer;
-      value = p .value;
-      marked = true;
-      decided = p .decided;
-      decision = p .decision;
-      recoveries = p .recoveries;
-      up = p .up;
-      estimates = p .estimates;
-      suspicions = p .suspicions;
-    }
+    processWith (p .first) (p .round) (p .phase) (p .proposer) (p .value) true (p .decided) (p .decision) (p .recoveries) (p .up) (p .estimates) (p .suspicions)
 
 -- "Down, everything kept: the null steps of document 002."
 unfoldable pub paused : Process → Process
 paused p =
-    record {
-      first = p .first;
-      round = p .round;
-      phase = p .phase;
-      proposer = p .proposer;
-      value = p .value;
-      marked = p .marked;
-      decided = p .decided;
-      decision = p .decision;
-      recoveries = p .recoveries;
-      up = false;
-      estimates = p .estimates;
-      suspicions = p .suspicions;
-    }
+    processWith (p .first) (p .round) (p .phase) (p .proposer) (p .value) (p .marked) (p .decided) (p .decision) (p .recoveries) false (p .estimates) (p .suspicions)
 
 -- "Down, both tallies emptied. This loss, and the cut, are ours and not document 002's."
 unfoldable pub crashed : Process → Process
 crashed p =
-    record {
-      first = p .first;
-      round = p .round;
-      phase = p .phase;
-      proposer = p .proposer;
-      value = p .value;
-      marked = p .marked;
-      decided = p .decided;
-      decision = p .decision;
-      recoveries = p .recoveries;
-      up = false;
-      estimates = 0;
-      suspicions = 0;
-    }
+    processWith (p .first) (p .round) (p .phase) (p .proposer) (p .value) (p .marked) (p .decided) (p .decision) (p .recoveries) false 0 0
 
 -- "Up, nothing else" but, by request 2026-03, one recovery more: "one more at each applied recover"
 unfoldable pub recovered : Process → Process
 recovered p =
-    record {
-      first = p .first;
-      round = p .round;
-      phase = p .phase;
-      proposer = p .proposer;
-      value = p .value;
-      marked = p .marked;
-      decided = p .decided;
-      decision = p .decision;
-      recoveries = p .recoveries + 1;
-      up = true;
-      estimates = p .estimates;
-      suspicions = p .suspicions;
-    }
+    processWith (p .first) (p .round) (p .phase) (p .proposer) (p .value) (p .marked) (p .decided) (p .decision) (p .recoveries + 1) true (p .estimates) (p .suspicions)
 
 -- ---- stages
 

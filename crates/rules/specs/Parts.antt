@@ -2,7 +2,7 @@
 use mathlib.Core.Path.{_≡_}
 use mathlib.Core.Bool.{Bool, true, false, _&&_, not}
 use mathlib.Core.List.{List}
-use Prim.Native.Nat.{ℕ, zero, suc, _≤_}
+use Prim.Native.Nat.{ℕ, zero, suc, _+_, _≤_}
 use lib.Dec.{eqb, ltb}
 use lib.ListN.{length}
 use Rattle.rules.specs.declared.group.Group.{Group}
@@ -10,17 +10,20 @@ use Rattle.rules.specs.declared.process.Process.{Process}
 use Rattle.rules.specs.declared.process.Next.{Next}
 use Rattle.rules.specs.declared.course.Address.{Address}
 use Rattle.rules.specs.declared.course.Address.the-variants.{Misses, At}
-use Rattle.rules.specs.declared.course.Course.{Course}
-use Rattle.rules.specs.declared.course.Course.the-variants.{Refuses, Takes}
+use Rattle.rules.specs.declared.course.Way.{Way}
+use Rattle.rules.specs.declared.store.Spot.{Spot}
+use Rattle.rules.specs.declared.process.Message.{Message}
+use Rattle.rules.specs.declared.process.Message.the-variants.{Nothing, E, S, F, Decision}
 use Rattle.rules.specs.declared.step.Step.{Step}
 use Rattle.rules.specs.declared.step.Step.the-variants.{DeliverE, DeliverS, DeliverF, DeliverDecision, Suspect, Pause, Crash, Recover}
 use Rattle.rules.specs.Limits.{greatestSize, lastRound, tooMany, storeLength, deepestMessage, among}
-use Rattle.rules.specs.Store.{proposerOf, valueOf, messageRound}
+use Rattle.rules.specs.Records.{processAt}
+use Rattle.rules.specs.Store.{proposerOf, valueOf, placeOf, entryFor, messageRound, handOver, turned}
 use Rattle.rules.specs.Events.{onE, onS, onF, onDecision, onSuspect, onPause, onCrash, onRecover, cutIf}
 use Rattle.rules.specs.Steps.{takerOf, numbersOf, delivers, slotOf}
 use Rattle.rules.specs.Idle.{idleE, idleS, idleF}
 use Rattle.rules.specs.Refusals.{row, every, late, isRecover, maySuspect}
-use Rattle.rules.specs.Step.{idles, orIdle}
+use Rattle.rules.specs.Step.{Course, Idles, Refuses, Takes, idles, orIdle}
 use Rattle.rules.specs.Depths as deep
 
 -- ---- the step alone: rows 3 and 4, then who takes it, where its message stands, whether it delivers one, whether it recovers
@@ -84,16 +87,55 @@ unlessHeld (suc k) c = Refuses (suc k)
 unfoldable pub heldCourse : ℕ → ℕ → ℕ → ℕ → Process → Step → Course
 heldCourse n i e k p s = unlessHeld (heldRows n (p .up) e k (delivers s) (isRecover s)) (lastCourse n i e p s)
 
--- whether the step is a delivery to the process that is not idle
-unfoldable pub hears : Process → Step → Bool
-hears p (DeliverE to from r c) = not (idleE p from r)
-hears p (DeliverS to from r c) = not (idleS p from r)
-hears p (DeliverF to from r c) = not (idleF p from r)
-hears p (DeliverDecision to from c) = not (p .decided)
-hears p (Suspect to c) = false
-hears p (Pause to) = false
-hears p (Crash to) = false
-hears p (Recover to) = false
+-- ---- the way of a step: its course, with what lifts the depth of the process that takes it
+
+unfoldable pub lifted : ℕ → Course → Way
+lifted k Idles = Way.Idles
+lifted k (Refuses j) = Way.Refuses j
+lifted k (Takes i x) = Way.Takes i x k
+
+-- a delivery lifts the depth unless it is idle; no other step does
+unfoldable pub liftUnless : Bool → ℕ → ℕ
+liftUnless true k = 0
+liftUnless false k = k
+
+unfoldable pub lifts : Process → Step → ℕ → ℕ
+lifts p (DeliverE to from r c) k = liftUnless (idleE p from r) k
+lifts p (DeliverS to from r c) k = liftUnless (idleS p from r) k
+lifts p (DeliverF to from r c) k = liftUnless (idleF p from r) k
+lifts p (DeliverDecision to from c) k = liftUnless (p .decided) k
+lifts p (Suspect to c) k = 0
+lifts p (Pause to) k = 0
+lifts p (Crash to) k = 0
+lifts p (Recover to) k = 0
+
+unfoldable pub liftOf : Group → List ℕ → Step → ℕ
+liftOf g d s = lifts (processAt g (takerOf s)) s (deep.deliveredDepth d s + 1)
+
+abbrev pub wayOf : Group → List ℕ → List ℕ → Step → Way
+wayOf g l d s = lifted (liftOf g d s) (deep.course g l d s)
+
+-- ---- handing over
+
+-- where a message of process i stands, and its entry
+unfoldable pub spotOf : ℕ → Message → Spot
+spotOf i Nothing = Spot.Nowhere
+spotOf i (E r q v) = Spot.At (placeOf i (E r q v)) (entryFor i (E r q v))
+spotOf i (S r) = Spot.At (placeOf i (S r)) (entryFor i (S r))
+spotOf i (F r q v) = Spot.At (placeOf i (F r q v)) (entryFor i (F r q v))
+spotOf i (Decision v) = Spot.At (placeOf i (Decision v)) (entryFor i (Decision v))
+
+-- process i handed m over at the depth k: both stores after it, and how many entries turned from 0
+pub record HandsOver (i : ℕ) (m : Message) (k : ℕ) (l d l′ d′ : List ℕ) (sent : ℕ) : Type 0 where
+  pub store : l′ ≡ handOver i m l
+  pub depths : d′ ≡ deep.dated i m k l d
+  pub turns : sent ≡ turned i m l
+
+-- and then another
+pub record HandsOverBoth (i : ℕ) (m m′ : Message) (k : ℕ) (l d l′ d′ : List ℕ) (sent : ℕ) : Type 0 where
+  pub store : l′ ≡ handOver i m′ (handOver i m l)
+  pub depths : d′ ≡ deep.dated i m′ k (handOver i m l) (deep.dated i m k l d)
+  pub turns : sent ≡ turned i m l + turned i m′ (handOver i m l)
 
 -- ---- what the functions ask
 
@@ -109,19 +151,6 @@ pub record Numbered (n : ℕ) (p : Process) (s : Step) : Type 0 where
   pub high : n ≤ greatestSize
   pub round : p .round ≤ lastRound
   pub numbers : numberRows n s ≡ 0
-
--- the numbers of a step alone, in a group of any size
-abbrev pub Ranged : Step → Type 0
-Ranged s = numberRows greatestSize s ≡ 0
-
--- the depth after a step that process i takes, over the depths d
-pub record Dated (i : ℕ) (d : List ℕ) (s : Step) : Type 0 where
-  pub taker : i ≡ takerOf s
-  pub low : 1 ≤ i
-  pub high : i ≤ greatestSize
-  pub numbers : Ranged s
-  pub long : storeLength ≤ length d
-  pub shallow : deep.tooDeep d s ≡ false
 
 -- handing over, of process i, its messages and both stores
 pub record Handable (i : ℕ) (x : Next) (l d : List ℕ) : Type 0 where

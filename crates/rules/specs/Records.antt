@@ -11,6 +11,24 @@ use Rattle.rules.specs.declared.group.Group.{Group}
 use Rattle.rules.specs.declared.process.Process.{Process}
 use Rattle.rules.specs.Limits.{greatestSize, among}
 
+-- a record by its fields, in this order
+abbrev pub processWith : ℕ → ℕ → ℕ → ℕ → ℕ → Bool → Bool → ℕ → ℕ → Bool → ℕ → ℕ → Process
+processWith first round phase proposer value marked decided decision recoveries up estimates suspicions =
+    record {
+      first = first;
+      round = round;
+      phase = phase;
+      proposer = proposer;
+      value = value;
+      marked = marked;
+      decided = decided;
+      decision = decision;
+      recoveries = recoveries;
+      up = up;
+      estimates = estimates;
+      suspicions = suspicions;
+    }
+
 -- "All but the tallies and up/down is the *stored record*."
 pub record Stored : Type 0 where
   pub first : ℕ
@@ -99,6 +117,10 @@ depthAt g i = depthIn (g .halves) i
 unfoldable pub withDepth : Group → ℕ → ℕ → Group
 withDepth g i k = groupOf (g .n) (g .words) (set (g .halves) (third + (i - 1)) k) (g .bytes) (g .flags)
 
+-- whether process i has decided, of the bools
+unfoldable pub decidedIn : List Bool → ℕ → Bool
+decidedIn flags i = getD flags (second + (i - 1)) false
+
 -- every list has its whole columns: so has every group that the code holds
 pub record Sized (g : Group) : Type 0 where
   pub words : length (g .words) ≡ 3 * greatestSize
@@ -108,21 +130,7 @@ pub record Sized (g : Group) : Type 0 where
 
 -- "Records above n, and all records of a group of size 0, have every number 0, no mark, no decision, empty tallies and are down; no step changes those above n."
 unfoldable pub blank : Process
-blank =
-    record {
-      first = 0;
-      round = 0;
-      phase = 0;
-      proposer = 0;
-      value = 0;
-      marked = false;
-      decided = false;
-      decision = 0;
-      recoveries = 0;
-      up = false;
-      estimates = 0;
-      suspicions = 0;
-    }
+blank = processWith 0 0 0 0 0 false false 0 0 false 0 0
 
 unfoldable pub recordIf : Bool → Group → ℕ → Process
 recordIf true g i = processAt g i

@@ -8,28 +8,14 @@ use Rattle.rules.specs.declared.process.Process.{Process}
 use Rattle.rules.specs.declared.process.Message.{Message}
 use Rattle.rules.specs.declared.process.Message.the-variants.{E}
 use Rattle.rules.specs.Limits.{storeLength}
-use Rattle.rules.specs.Records.{withProcess, blankGroup}
+use Rattle.rules.specs.Records.{processWith, withProcess, blankGroup}
 use Rattle.rules.specs.Store.{cleared, handOver}
 use Rattle.rules.specs.Answers.{Outcome, outcome, refused, saysApplied}
 use Rattle.rules.specs.Refusals.{startRefusal}
 
 -- "process i has first value v_i, round 0, phase 1, estimate (i, v_i), no mark, no decision, up, empty tallies", and no recovery
 unfoldable pub fresh : ℕ → ℕ → Process
-fresh i v =
-    record {
-      first = v;
-      round = 0;
-      phase = 1;
-      proposer = i;
-      value = v;
-      marked = false;
-      decided = false;
-      decision = 0;
-      recoveries = 0;
-      up = true;
-      estimates = 0;
-      suspicions = 0;
-    }
+fresh i v = processWith v 0 1 i v false false 0 0 true 0 0
 
 -- the first k processes of the values vs started, every other record blank
 unfoldable pub startedTo : List ℕ → ℕ → Group

@@ -6,8 +6,6 @@ use Rattle.rules.specs.declared.group.Group.{Group}
 use Rattle.rules.specs.declared.process.Process.{Process}
 use Rattle.rules.specs.declared.process.Next.{Next}
 use Rattle.rules.specs.declared.step.Step.{Step}
-use Rattle.rules.specs.declared.course.Course.{Course}
-use Rattle.rules.specs.declared.course.Course.the-variants.{Idles, Refuses, Takes}
 use Rattle.rules.specs.Records.{processAt, withProcess}
 use Rattle.rules.specs.Store.{handOver, turned}
 use Rattle.rules.specs.Answers.{Outcome, outcome, refused, saysApplied, saysIdle}
@@ -16,7 +14,12 @@ use Rattle.rules.specs.Steps.{takerOf, isCut, eventOf}
 use Rattle.rules.specs.Idle.{idle}
 use Rattle.rules.specs.Refusals.{refusal}
 
--- ---- the course of a step: refused by a number, idle, or taken by process i with its next record and messages
+-- ---- the course of a step: idle, refused by a number, or taken by a process with its next record and messages
+
+pub data Course : Type 0 where
+  Idles : Course
+  Refuses : ℕ → Course
+  Takes : ℕ → Next → Course
 
 -- "A cut idle delivery is a crash and counts as applied."
 unfoldable pub idles : Bool → ℕ → Process → Course

@@ -1,8 +1,8 @@
-// The course of a step: refused by a number, idle, or taken by a process with its next record and messages; and the depth that the process then has.
+// The way of a step: refused by a number, idle, or taken by a process with its next record and messages, and how high a message that it hears lifts its depth.
 // It is read off the step, one record taken out by value, one entry and one depth; nothing is written here.
 ghost use mathlib.Core.Path.{_≡_};
 ghost use mathlib.Core.Bool.{_&&_, not, true, false};
-ghost use Prim.Native.Nat.{ℕ, _≤_};
+ghost use Prim.Native.Nat.{_+_, _≤_};
 ghost use Rattle.rules.specs.Limits as limits;
 ghost use lib.Dec.{ltb};
 ghost use Rattle.rules.specs.Records.{groupOf};
@@ -11,8 +11,7 @@ ghost use Rattle.rules.specs.Refusals as refusals;
 ghost use Rattle.rules.specs.Idle as idleness;
 ghost use Rattle.rules.specs.Events as events;
 ghost use Rattle.rules.specs.Step as steps;
-ghost use Rattle.rules.specs.Depths as deep;
-ghost use Rattle.rules.specs.Steps.{delivers, slotOf};
+ghost use Rattle.rules.specs.Steps.{delivers};
 ghost use Rattle.rules.specs.Parts as parts;
 use crate::group;
 use crate::group::Bytes;
@@ -24,11 +23,12 @@ use crate::process::Process;
 use crate::step::Step;
 use crate::store::Store;
 
-// The course of a step: idle, refused with a number, or taken by a process with its next record and messages.
-pub enum Course {
+// The way of a step: idle, refused with a number, or taken by a process with its next record and messages, and with what lifts its depth:
+// one more than the depth of the message that it hears, and 0 where it hears none.
+pub enum Way {
     Idles,
     Refuses(u8),
-    Takes(u8, Next),
+    Takes(u8, Next, u32),
 }
 
 // Where a step leads: refused by a number of its own, or the process that takes it, the place of its message (0 where it delivers none),
@@ -107,42 +107,6 @@ pub(crate) fn own_address(n: u8, process: u32, recovers: bool) -> Address
 }
 
 impl Step {
-    // Where the message that it delivers stands; 0 where it delivers none.
-    pub(crate) fn place(self) -> usize
-        requires { ⌜ parts.Ranged self ⌝ }
-        ensures { λ r. ⌜ r ≡ slotOf self ⌝ }
-    {
-        match self {
-            Step::DeliverE {
-                to: _,
-                from,
-                round,
-                cut: _,
-            } => Store::slot(round as u8, from as u8, Store::E),
-            Step::DeliverS {
-                to: _,
-                from,
-                round,
-                cut: _,
-            } => Store::slot(round as u8, from as u8, Store::S),
-            Step::DeliverF {
-                to: _,
-                from,
-                round,
-                cut: _,
-            } => Store::slot(round as u8, from as u8, Store::F),
-            Step::DeliverDecision {
-                to: _,
-                from,
-                cut: _,
-            } => Store::decision_slot(from as u8),
-            Step::Suspect { process: _, cut: _ } => 0,
-            Step::Pause { process: _ } => 0,
-            Step::Crash { process: _ } => 0,
-            Step::Recover { process: _ } => 0,
-        }
-    }
-
     // Where the step leads in a group of n: refusals 3 and 4, then what it reads.
     pub(crate) fn address(self, n: u8) -> Address
         requires { ⌜ n ≤ limits.greatestSize ⌝ }
@@ -212,21 +176,21 @@ pub(crate) fn held_refusal(
     0
 }
 
-// ---- courses of one process
+// ---- ways of one process
 
 impl Process {
     // An idle delivery: nothing, and a crash where it is cut.
-    pub(crate) fn idles(self, i: u8, cut: bool) -> Course
-        ensures { λ r. ⌜ r ≡ steps.idles cut i self ⌝ }
+    pub(crate) fn idles(self, i: u8, cut: bool) -> Way
+        ensures { λ r. ⌜ r ≡ parts.lifted 0 (steps.idles cut i self) ⌝ }
     {
         if cut {
-            Course::Takes(i, self.on_crash())
+            Way::Takes(i, self.on_crash(), 0)
         } else {
-            Course::Idles
+            Way::Idles
         }
     }
 
-    pub(crate) fn course_e(
+    pub(crate) fn way_e(
         self,
         n: u8,
         i: u8,
@@ -234,9 +198,10 @@ impl Process {
         round: u8,
         entry: u64,
         cut: bool,
-    ) -> Course
+        lift: u32,
+    ) -> Way
         requires { ⌜ (1 ≤ n) × (1 ≤ sender) × (sender ≤ limits.greatestSize) × (stores.proposerOf entry ≤ limits.greatestSize) ⌝ }
-        ensures { λ r. ⌜ r ≡ steps.orIdle (idleness.idleE self sender round) cut i self (events.onE n i sender round (stores.proposerOf entry) (stores.valueOf entry) self) ⌝ }
+        ensures { λ r. ⌜ r ≡ parts.lifted (parts.liftUnless (idleness.idleE self sender round) lift) (steps.orIdle (idleness.idleE self sender round) cut i self (events.onE n i sender round (stores.proposerOf entry) (stores.valueOf entry) self)) ⌝ }
     {
         if self.idle_e(sender, round) {
             return self.idles(i, cut);
@@ -249,22 +214,22 @@ impl Process {
             Store::proposer_of(entry),
             Store::value_of(entry),
         );
-        Course::Takes(i, next.cut_if(cut))
+        Way::Takes(i, next.cut_if(cut), lift)
     }
 
-    pub(crate) fn course_s(self, n: u8, i: u8, sender: u8, round: u8, cut: bool) -> Course
+    pub(crate) fn way_s(self, n: u8, i: u8, sender: u8, round: u8, cut: bool, lift: u32) -> Way
         requires { ⌜ (1 ≤ sender) × (sender ≤ limits.greatestSize) ⌝ }
-        ensures { λ r. ⌜ r ≡ steps.orIdle (idleness.idleS self sender round) cut i self (events.onS n sender self) ⌝ }
+        ensures { λ r. ⌜ r ≡ parts.lifted (parts.liftUnless (idleness.idleS self sender round) lift) (steps.orIdle (idleness.idleS self sender round) cut i self (events.onS n sender self)) ⌝ }
     {
         if self.idle_s(sender, round) {
             return self.idles(i, cut);
         }
         let next = self.on_s(n, sender);
-        Course::Takes(i, next.cut_if(cut))
+        Way::Takes(i, next.cut_if(cut), lift)
     }
 
     // An F that would take the process past the last round is refused.
-    pub(crate) fn course_f(
+    pub(crate) fn way_f(
         self,
         n: u8,
         i: u8,
@@ -272,9 +237,10 @@ impl Process {
         round: u8,
         entry: u64,
         cut: bool,
-    ) -> Course
+        lift: u32,
+    ) -> Way
         requires { ⌜ (1 ≤ n) × (1 ≤ sender) × (sender ≤ limits.greatestSize) × (self .round ≤ limits.lastRound) × (round ≤ limits.lastRound) × (stores.proposerOf entry ≤ limits.greatestSize) ⌝ }
-        ensures { λ r. ⌜ r ≡ parts.orPast (idleness.idleF self sender round) cut i self (events.onF n i sender round (stores.proposerOf entry) (stores.valueOf entry) self) ⌝ }
+        ensures { λ r. ⌜ r ≡ parts.lifted (parts.liftUnless (idleness.idleF self sender round) lift) (parts.orPast (idleness.idleF self sender round) cut i self (events.onF n i sender round (stores.proposerOf entry) (stores.valueOf entry) self)) ⌝ }
     {
         if self.idle_f(sender, round) {
             return self.idles(i, cut);
@@ -288,38 +254,38 @@ impl Process {
             Store::value_of(entry),
         );
         if Process::LAST_ROUND < next.process.round {
-            return Course::Refuses(8);
+            return Way::Refuses(8);
         }
-        Course::Takes(i, next.cut_if(cut))
+        Way::Takes(i, next.cut_if(cut), lift)
     }
 
-    pub(crate) fn course_decision(self, i: u8, entry: u64, cut: bool) -> Course
-        ensures { λ r. ⌜ r ≡ steps.orIdle (self .decided) cut i self (events.onDecision (stores.valueOf entry) self) ⌝ }
+    pub(crate) fn way_decision(self, i: u8, entry: u64, cut: bool, lift: u32) -> Way
+        ensures { λ r. ⌜ r ≡ parts.lifted (parts.liftUnless (self .decided) lift) (steps.orIdle (self .decided) cut i self (events.onDecision (stores.valueOf entry) self)) ⌝ }
     {
         if self.decided {
             return self.idles(i, cut);
         }
         let next = self.on_decision(Store::value_of(entry));
-        Course::Takes(i, next.cut_if(cut))
+        Way::Takes(i, next.cut_if(cut), lift)
     }
 
     // A recovery of a process that is up is refused, and so is one that would be too many.
-    pub(crate) fn course_recover(self, i: u8) -> Course
-        ensures { λ r. ⌜ r ≡ parts.orUp (self .up) i self ⌝ }
+    pub(crate) fn way_recover(self, i: u8) -> Way
+        ensures { λ r. ⌜ r ≡ parts.lifted 0 (parts.orUp (self .up) i self) ⌝ }
     {
         if self.up {
-            return Course::Refuses(7);
+            return Way::Refuses(7);
         }
         if Process::MOST_RECOVERIES <= self.recoveries {
-            return Course::Refuses(13);
+            return Way::Refuses(13);
         }
-        Course::Takes(i, self.on_recover())
+        Way::Takes(i, self.on_recover(), 0)
     }
 
-    // The course of a step that none of 11 to the message's 14 stops.
-    pub(crate) fn last_course(self, n: u8, i: u8, entry: u64, step: Step) -> Course
+    // The way of a step that none of 11 to the message's 14 stops.
+    pub(crate) fn last_way(self, n: u8, i: u8, entry: u64, lift: u32, step: Step) -> Way
         requires { ⌜ parts.Numbered n self step × (delivers step ≡ true → stores.proposerOf entry ≤ limits.greatestSize) ⌝ }
-        ensures { λ r. ⌜ r ≡ parts.lastCourse n i entry self step ⌝ }
+        ensures { λ r. ⌜ r ≡ parts.lifted (parts.lifts self step lift) (parts.lastCourse n i entry self step) ⌝ }
     {
         match step {
             Step::DeliverE {
@@ -327,69 +293,33 @@ impl Process {
                 from,
                 round,
                 cut,
-            } => self.course_e(n, i, from as u8, round as u8, entry, cut),
+            } => self.way_e(n, i, from as u8, round as u8, entry, cut, lift),
             Step::DeliverS {
                 to: _,
                 from,
                 round,
                 cut,
-            } => self.course_s(n, i, from as u8, round as u8, cut),
+            } => self.way_s(n, i, from as u8, round as u8, cut, lift),
             Step::DeliverF {
                 to: _,
                 from,
                 round,
                 cut,
-            } => self.course_f(n, i, from as u8, round as u8, entry, cut),
+            } => self.way_f(n, i, from as u8, round as u8, entry, cut, lift),
             Step::DeliverDecision {
                 to: _,
                 from: _,
                 cut,
-            } => self.course_decision(i, entry, cut),
-            Step::Suspect { process: _, cut } => self.course_suspect(i, cut),
-            Step::Pause { process: _ } => Course::Takes(i, self.on_pause()),
-            Step::Crash { process: _ } => Course::Takes(i, self.on_crash()),
-            Step::Recover { process: _ } => self.course_recover(i),
+            } => self.way_decision(i, entry, cut, lift),
+            Step::Suspect { process: _, cut } => self.way_suspect(i, cut),
+            Step::Pause { process: _ } => Way::Takes(i, self.on_pause(), 0),
+            Step::Crash { process: _ } => Way::Takes(i, self.on_crash(), 0),
+            Step::Recover { process: _ } => self.way_recover(i),
         }
     }
 
-    // Whether the step is a delivery that is not idle.
-    pub(crate) fn hears(self, step: Step) -> bool
-        requires { ⌜ parts.Ranged step ⌝ }
-        ensures { λ r. ⌜ r ≡ parts.hears self step ⌝ }
-    {
-        match step {
-            Step::DeliverE {
-                to: _,
-                from,
-                round,
-                cut: _,
-            } => !self.idle_e(from as u8, round as u8),
-            Step::DeliverS {
-                to: _,
-                from,
-                round,
-                cut: _,
-            } => !self.idle_s(from as u8, round as u8),
-            Step::DeliverF {
-                to: _,
-                from,
-                round,
-                cut: _,
-            } => !self.idle_f(from as u8, round as u8),
-            Step::DeliverDecision {
-                to: _,
-                from: _,
-                cut: _,
-            } => !self.decided,
-            Step::Suspect { process: _, cut: _ } => false,
-            Step::Pause { process: _ } => false,
-            Step::Crash { process: _ } => false,
-            Step::Recover { process: _ } => false,
-        }
-    }
-
-    // The course of a step that none of 11 to 4 stops.
-    pub(crate) fn course(
+    // The way of a step that none of 11 to 4 stops.
+    pub(crate) fn way(
         self,
         n: u8,
         i: u8,
@@ -398,31 +328,31 @@ impl Process {
         delivering: bool,
         recovering: bool,
         step: Step,
-    ) -> Course
+    ) -> Way
         requires { ⌜ parts.Numbered n self step × (delivering ≡ delivers step) × (recovering ≡ refusals.isRecover step) ⌝ }
-        ensures { λ r. ⌜ r ≡ parts.heldCourse n i entry depth self step ⌝ }
+        ensures { λ r. ⌜ r ≡ parts.lifted (parts.lifts self step (depth + 1)) (parts.heldCourse n i entry depth self step) ⌝ }
     {
         let refusal = held_refusal(n, self.up, entry, depth, delivering, recovering);
         if refusal != 0 {
-            return Course::Refuses(refusal);
+            return Way::Refuses(refusal);
         }
-        self.last_course(n, i, entry, step)
+        self.last_way(n, i, entry, depth as u32 + 1, step)
     }
 
     // A suspicion that is not possible is refused.
-    pub(crate) fn course_suspect(self, i: u8, cut: bool) -> Course
-        ensures { λ r. ⌜ r ≡ parts.orImpossible (refusals.maySuspect self) cut i self ⌝ }
+    pub(crate) fn way_suspect(self, i: u8, cut: bool) -> Way
+        ensures { λ r. ⌜ r ≡ parts.lifted 0 (parts.orImpossible (refusals.maySuspect self) cut i self) ⌝ }
     {
         if self.may_suspect() {
-            return Course::Takes(i, self.on_suspect().cut_if(cut));
+            return Way::Takes(i, self.on_suspect().cut_if(cut), 0);
         }
-        Course::Refuses(7)
+        Way::Refuses(7)
     }
 }
 
-// ---- the course of a step over lent arrays, which it only reads
+// ---- the way of a step over lent arrays, which it only reads
 
-pub(crate) fn course_of(
+pub(crate) fn way_of(
     n: u8,
     words: &Words,
     halves: &Halves,
@@ -431,13 +361,13 @@ pub(crate) fn course_of(
     store: &[u64],
     depths: &[u16],
     step: Step,
-) -> Course
+) -> Way
     requires { ⌜ parts.Ready (groupOf n (now words) (now halves) (now bytes) (now flags)) (now store) (now depths) ⌝ }
-    ensures { λ r. ⌜ r ≡ deep.course (groupOf n (now (words .entry)) (now (halves .entry)) (now (bytes .entry)) (now (flags .entry))) (now (store .entry)) (now (depths .entry)) step ⌝ }
+    ensures { λ r. ⌜ r ≡ parts.wayOf (groupOf n (now (words .entry)) (now (halves .entry)) (now (bytes .entry)) (now (flags .entry))) (now (store .entry)) (now (depths .entry)) step ⌝ }
 {
     let address = step.address(n);
     match address {
-        Address::Misses(number) => Course::Refuses(number),
+        Address::Misses(number) => Way::Refuses(number),
         Address::At {
             taker,
             place,
@@ -447,39 +377,7 @@ pub(crate) fn course_of(
             let entry = store[place];
             let depth = depths[place];
             let p = group::take_out(words, halves, bytes, flags, taker);
-            p.course(n, taker, entry, depth, delivers, recovers, step)
+            p.way(n, taker, entry, depth, delivers, recovers, step)
         }
     }
-}
-
-// The depth of process i, which takes a step, after it.
-pub(crate) fn depth_after(
-    words: &Words,
-    halves: &Halves,
-    bytes: &Bytes,
-    flags: &Flags,
-    depths: &[u16],
-    i: u8,
-    step: Step,
-) -> u16
-    requires { ⌜ parts.Dated i (now depths) step ⌝ }
-    ensures { λ r. ⌜ ((n : ℕ) → r ≡ deep.depthAfter (groupOf n (now (words .entry)) (now (halves .entry)) (now (bytes .entry)) (now (flags .entry))) (now (depths .entry)) step) ⌝ }
-{
-    let p = group::take_out(words, halves, bytes, flags, i);
-    let old = group::depth_of(halves, i);
-    if !p.hears(step) {
-        return old;
-    }
-    raised(depths[step.place()], old)
-}
-
-// A depth, raised to one more than the message's where that is more.
-pub(crate) fn raised(depth: u16, old: u16) -> u16
-    requires { ⌜ depth ≤ limits.deepestMessage ⌝ }
-    ensures { λ r. ⌜ r ≡ deep.raised true depth old ⌝ }
-{
-    if depth < old {
-        return old;
-    }
-    depth + 1
 }

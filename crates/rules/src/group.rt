@@ -1,22 +1,15 @@
-// A group of processes as a value, and the functions for everybody: start, step, and a look at one process.
-// Its records are kept in four arrays by width. `take_out` and `put_back` alone see the arrays' layout; they work on lent arrays, and so does a step.
+// A group of processes as a value, and a look at one process.
+// Its records are kept in four arrays by width, with the depth of each process. The functions of this file alone see the arrays' layout; they work on lent arrays, and so does a step.
 ghost use mathlib.Core.Path.{_≡_};
 ghost use mathlib.Core.Bool.{_||_};
 ghost use Prim.Native.Nat.{ℕ, _≤_};
 ghost use lib.Dec.{eqb};
-ghost use lib.ListN.{length};
 ghost use Rattle.rules.specs.Limits as limits;
 ghost use Rattle.rules.specs.Records as records;
 ghost use Rattle.rules.specs.Depths as deep;
 ghost use Rattle.rules.specs.Refusals as refusals;
-ghost use Rattle.rules.specs.Start as starts;
-use crate::process::Message;
 use crate::process::Process;
-use crate::step;
 use crate::step::Answer;
-use crate::step::Step;
-use crate::step::Taken;
-use crate::store::Store;
 use crate::tally;
 
 pub type Words = [u32; 3 * Group::GREATEST];
@@ -35,6 +28,12 @@ pub struct Group {
     pub halves: Halves,
     pub bytes: Bytes,
     pub flags: Flags,
+}
+
+// The group after a start or a step, and the answer.
+pub struct Taken {
+    pub group: Group,
+    pub answer: Answer,
 }
 
 // The record of process i.
@@ -100,6 +99,14 @@ pub(crate) fn depth_of(halves: &Halves, i: u8) -> u16
     halves[Group::THIRD + (i - 1) as usize]
 }
 
+// Whether process i has decided.
+pub(crate) fn decided_of(flags: &Flags, i: u8) -> bool
+    requires { ⌜ (1 ≤ i) × (i ≤ limits.greatestSize) ⌝ }
+    ensures { λ r. ⌜ r ≡ records.decidedIn (now (flags .entry)) i ⌝ }
+{
+    flags[Group::SECOND + (i - 1) as usize]
+}
+
 // Puts p back as the record of process i, with its depth.
 pub(crate) fn put_deep(
     words: &mut Words,
@@ -163,25 +170,6 @@ pub(crate) fn damaged(n: u8, words: &Words, halves: &Halves, bytes: &Bytes, flag
         k = i;
     }
     !sound
-}
-
-// Starts the first processes of a group with the values, one record for each.
-pub(crate) fn fill(
-    values: &[u32],
-    words: &mut Words,
-    halves: &mut Halves,
-    bytes: &mut Bytes,
-    flags: &mut Flags,
-)
-    requires { ⌜ (length (now values) ≤ limits.greatestSize) × (records.groupOf (length (now values)) (now words) (now halves) (now bytes) (now flags) ≡ records.blankGroup (length (now values))) ⌝ }
-    ensures { λ r. ⌜ records.groupOf (length (now (values .entry))) (now (words .exit)) (now (halves .exit)) (now (bytes .exit)) (now (flags .exit)) ≡ starts.startedTo (now (values .entry)) (length (now (values .entry))) ⌝ }
-{
-    let mut k: usize = 0;
-    while k < values.len() {
-        let i = (k + 1) as u8;
-        put_back(words, halves, bytes, flags, i, Process::fresh(i, values[k]));
-        k += 1;
-    }
 }
 
 impl Group {
@@ -252,107 +240,4 @@ impl Group {
         let halves = self.halves;
         depth_of(&halves, process as u8)
     }
-
-    // A group of one process for each value, with process 1's E of round 0 in a store that is cleared before, and all depths 0. Refused: a group of size 0, and both stores as they were.
-    pub fn start(values: &[u32], store: &mut [u64], depths: &mut [u16]) -> Taken
-        ensures { λ r. ⌜ deep.Starts (now (values .entry)) (now (store .entry)) (now (depths .entry)) r (now (store .exit)) (now (depths .exit)) ⌝ }
-    {
-        if store.len() < Store::LENGTH {
-            return Taken {
-                group: Group::none(),
-                answer: Answer::Refused(11),
-            };
-        }
-        if depths.len() < Store::LENGTH {
-            return Taken {
-                group: Group::none(),
-                answer: Answer::Refused(14),
-            };
-        }
-        let n = values.len();
-        if n == 0 {
-            return Taken {
-                group: Group::none(),
-                answer: Answer::Refused(1),
-            };
-        }
-        if Group::GREATEST < n {
-            return Taken {
-                group: Group::none(),
-                answer: Answer::Refused(1),
-            };
-        }
-        let mut words = [0u32; 3 * Group::GREATEST];
-        let mut halves = [0u16; 3 * Group::GREATEST];
-        let mut bytes = [0u8; 4 * Group::GREATEST];
-        let mut flags = [false; 3 * Group::GREATEST];
-        fill(values, &mut words, &mut halves, &mut bytes, &mut flags);
-        begin(values[0], store, depths);
-        let group = Group {
-            n: n as u8,
-            words: words,
-            halves: halves,
-            bytes: bytes,
-            flags: flags,
-        };
-        Taken {
-            group: group,
-            answer: Answer::Applied {
-                sent: 1,
-                decided: false,
-            },
-        }
-    }
-
-    // One step of the group over its store and the depths of its messages.
-    pub fn step(self, store: &mut [u64], depths: &mut [u16], step: Step) -> Taken
-        ensures { λ r. ⌜ deep.Steps self (now (store .entry)) (now (depths .entry)) step r (now (store .exit)) (now (depths .exit)) ⌝ }
-    {
-        let n = self.n;
-        let mut words = self.words;
-        let mut halves = self.halves;
-        let mut bytes = self.bytes;
-        let mut flags = self.flags;
-        let answer = step::step_on(
-            n,
-            &mut words,
-            &mut halves,
-            &mut bytes,
-            &mut flags,
-            store,
-            depths,
-            step,
-        );
-        let group = Group {
-            n: n,
-            words: words,
-            halves: halves,
-            bytes: bytes,
-            flags: flags,
-        };
-        Taken {
-            group: group,
-            answer: answer,
-        }
-    }
-}
-
-// Clears the store and the depths, and hands process 1's E of round 0 over, whose depth is 0.
-pub(crate) fn begin(value: u32, store: &mut [u64], depths: &mut [u16])
-    requires { ⌜ (limits.storeLength ≤ length (now store)) × (limits.storeLength ≤ length (now depths)) ⌝ }
-    ensures { λ r. ⌜ (now (store .exit) ≡ starts.opened value (now (store .entry))) × (now (depths .exit) ≡ deep.opened value (now (store .entry)) (now (depths .entry))) ⌝ }
-{
-    Store::clear(store);
-    Store::clear_depths(depths);
-    Store::hand_over(
-        store,
-        depths,
-        0,
-        1,
-        Message::E {
-            round: 0,
-            proposer: 1,
-            value,
-        },
-    );
 }

@@ -7,9 +7,16 @@ ghost use lib.ListN.{length, getD, set};
 ghost use Rattle.rules.specs.Limits as limits;
 ghost use Rattle.rules.specs.Store as stores;
 ghost use Rattle.rules.specs.Depths as deep;
+ghost use Rattle.rules.specs.Parts as parts;
 ghost use Rattle.rules.specs.Tally.{bitOf};
 use crate::group::Group;
 use crate::process::Message;
+
+// Where a message stands in the store and with which entry; nowhere where there is none.
+pub enum Spot {
+    Nowhere,
+    At(usize, u64),
+}
 
 // The store itself is a slice of 64-bit entries that the caller lends, and the depths one of 16-bit numbers; this type has their limits.
 pub struct Store {}
@@ -102,6 +109,38 @@ impl Store {
         1
     }
 
+    // Where a message of process i stands, and its entry.
+    pub(crate) fn spot(i: u8, message: Message) -> Spot
+        requires { ⌜ (1 ≤ i) × (i ≤ limits.greatestSize) ⌝ }
+        ensures { λ r. ⌜ r ≡ parts.spotOf i message ⌝ }
+    {
+        match message {
+            Message::Nothing => Spot::Nowhere,
+            Message::E {
+                round,
+                proposer,
+                value,
+            } => Spot::At(
+                Store::slot(round, i, Store::E),
+                Store::entry_of(proposer, value),
+            ),
+            Message::S { round } => {
+                Spot::At(Store::slot(round, i, Store::S), Store::entry_of(i, 0))
+            }
+            Message::F {
+                round,
+                proposer,
+                value,
+            } => Spot::At(
+                Store::slot(round, i, Store::F),
+                Store::entry_of(proposer, value),
+            ),
+            Message::Decision { value } => {
+                Spot::At(Store::decision_slot(i), Store::entry_of(i, value))
+            }
+        }
+    }
+
     // Process i hands a message over at a depth. Answers how many entries turn from 0.
     pub(crate) fn hand_over(
         store: &mut [u64],
@@ -111,68 +150,40 @@ impl Store {
         message: Message,
     ) -> u8
         requires { ⌜ (1 ≤ i) × (i ≤ limits.greatestSize) × (stores.messageRound message ≤ limits.lastRound) × (limits.storeLength ≤ length (now store)) × (limits.storeLength ≤ length (now depths)) ⌝ }
-        ensures { λ r. ⌜ (now (store .exit) ≡ stores.handOver i message (now (store .entry))) × (now (depths .exit) ≡ deep.dated i message depth (now (store .entry)) (now (depths .entry))) × (r ≡ stores.turned i message (now (store .entry))) ⌝ }
+        ensures { λ r. ⌜ parts.HandsOver i message depth (now (store .entry)) (now (depths .entry)) (now (store .exit)) (now (depths .exit)) r ⌝ }
     {
-        match message {
-            Message::Nothing => 0,
-            Message::E {
-                round,
-                proposer,
-                value,
-            } => Store::write(
-                store,
-                depths,
-                depth,
-                Store::slot(round, i, Store::E),
-                Store::entry_of(proposer, value),
-            ),
-            Message::S { round } => Store::write(
-                store,
-                depths,
-                depth,
-                Store::slot(round, i, Store::S),
-                Store::entry_of(i, 0),
-            ),
-            Message::F {
-                round,
-                proposer,
-                value,
-            } => Store::write(
-                store,
-                depths,
-                depth,
-                Store::slot(round, i, Store::F),
-                Store::entry_of(proposer, value),
-            ),
-            Message::Decision { value } => Store::write(
-                store,
-                depths,
-                depth,
-                Store::decision_slot(i),
-                Store::entry_of(i, value),
-            ),
+        let spot = Store::spot(i, message);
+        match spot {
+            Spot::Nowhere => 0,
+            Spot::At(at, entry) => Store::write(store, depths, depth, at, entry),
         }
     }
 
-    // Clears the entries, and nothing past them.
-    pub(crate) fn clear(store: &mut [u64])
-        requires { ⌜ limits.storeLength ≤ length (now store) ⌝ }
-        ensures { λ r. ⌜ now (store .exit) ≡ stores.cleared limits.storeLength (now (store .entry)) ⌝ }
+    // Process i hands two messages over at a depth, the first first.
+    pub(crate) fn hand_over_both(
+        store: &mut [u64],
+        depths: &mut [u16],
+        depth: u16,
+        i: u8,
+        first: Message,
+        second: Message,
+    ) -> u8
+        requires { ⌜ (1 ≤ i) × (i ≤ limits.greatestSize) × (stores.messageRound first ≤ limits.lastRound) × (stores.messageRound second ≤ limits.lastRound) × (limits.storeLength ≤ length (now store)) × (limits.storeLength ≤ length (now depths)) ⌝ }
+        ensures { λ r. ⌜ parts.HandsOverBoth i first second depth (now (store .entry)) (now (depths .entry)) (now (store .exit)) (now (depths .exit)) r ⌝ }
+    {
+        let sent = Store::hand_over(store, depths, depth, i, first);
+        let more = Store::hand_over(store, depths, depth, i, second);
+        sent + more
+    }
+
+    // Clears the entries and the depths, and nothing past them.
+    pub(crate) fn clear(store: &mut [u64], depths: &mut [u16])
+        requires { ⌜ (limits.storeLength ≤ length (now store)) × (limits.storeLength ≤ length (now depths)) ⌝ }
+        ensures { λ r. ⌜ (now (store .exit) ≡ stores.cleared limits.storeLength (now (store .entry))) × (now (depths .exit) ≡ stores.cleared limits.storeLength (now (depths .entry))) ⌝ }
     {
         let mut at: usize = 0;
         while at < Store::LENGTH {
             store[at] = 0;
-            at += 1;
-        }
-    }
-
-    // Clears the depths, and nothing past them.
-    pub(crate) fn clear_depths(depths: &mut [u16])
-        requires { ⌜ limits.storeLength ≤ length (now depths) ⌝ }
-        ensures { λ r. ⌜ now (depths .exit) ≡ stores.cleared limits.storeLength (now (depths .entry)) ⌝ }
-    {
-        let mut at: usize = 0;
-        while at < Store::LENGTH {
             depths[at] = 0;
             at += 1;
         }

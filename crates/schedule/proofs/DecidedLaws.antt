@@ -16,8 +16,7 @@ use Rattle.rules.specs.Run.{State, startState, next, after, answers}
 use Rattle.rules.specs.Safety.{Begins, at, processOf}
 use Rattle.rules.specs.declared.group.Group.{Group}
 use Rattle.rules.specs.declared.process.Process.{Process}
-use Rattle.rules.specs.declared.course.Course.{Course}
-use Rattle.rules.specs.declared.course.Course.the-variants.{Idles, Refuses, Takes}
+use Rattle.rules.specs.Step.{Course, Idles, Refuses, Takes}
 use Rattle.rules.specs.declared.step.Step.{Step}
 use Rattle.rules.proofs.CountLaws.{count-ext, count-none}
 use Rattle.rules.proofs.GroupLaws.{process-put, process-kept, with-size, started-process, started-size}

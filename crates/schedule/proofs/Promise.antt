@@ -16,8 +16,7 @@ use Rattle.rules.specs.DepthRun.{DeepState, DeepBegins, forgetting, Longest}
 use Rattle.rules.specs.DepthRun as deep
 use Rattle.rules.specs.declared.group.Group.{Group}
 use Rattle.rules.specs.declared.process.Process.{Process}
-use Rattle.rules.specs.declared.course.Course.{Course}
-use Rattle.rules.specs.declared.course.Course.the-variants.{Idles, Refuses, Takes}
+use Rattle.rules.specs.Step.{Course, Idles, Refuses, Takes}
 use Rattle.rules.specs.declared.step.Step.{Step}
 use Rattle.rules.proofs.CountLaws.{count-ext}
 use Rattle.rules.proofs.ForgetLaws.{process-forgets}

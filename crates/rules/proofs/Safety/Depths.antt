@@ -15,8 +15,7 @@ use Rattle.rules.specs.declared.process.Process.{Process}
 use Rattle.rules.specs.declared.process.Message.{Message}
 use Rattle.rules.specs.declared.process.Next.{Next}
 use Rattle.rules.specs.declared.step.Step.{Step}
-use Rattle.rules.specs.declared.course.Course.{Course}
-use Rattle.rules.specs.declared.course.Course.the-variants.{Idles, Refuses, Takes}
+use Rattle.rules.specs.Step.{Course, Idles, Refuses, Takes}
 use Rattle.rules.specs.Limits.{greatestSize, storeLength, deepestMessage, among}
 use Rattle.rules.specs.Records.{processAt, withProcess, depthAt, withDepth, Sized}
 use Rattle.rules.specs.Store.{placeOf, handOver, turned, cleared, sentIn}

@@ -13,8 +13,7 @@ use Rattle.rules.specs.declared.process.Process.{Process}
 use Rattle.rules.specs.declared.process.Next.{Next}
 use Rattle.rules.specs.declared.step.Step.{Step}
 use Rattle.rules.specs.declared.step.Step.the-variants.{DeliverE, DeliverS, DeliverF, DeliverDecision, Suspect, Pause, Crash, Recover}
-use Rattle.rules.specs.declared.course.Course.{Course}
-use Rattle.rules.specs.declared.course.Course.the-variants.{Idles, Refuses, Takes}
+use Rattle.rules.specs.Step.{Course, Idles, Refuses, Takes}
 use Rattle.rules.specs.Limits.{greatestSize, mostRecoveries, tooMany, storeLength}
 use Rattle.rules.specs.Tally.{bitOf}
 use Rattle.rules.specs.Records.{processAt, Sized}

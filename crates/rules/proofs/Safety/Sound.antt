@@ -17,7 +17,7 @@ use Rattle.rules.specs.declared.process.Message.{Message}
 use Rattle.rules.specs.declared.process.Message.the-variants.{Nothing, E, S, F, Decision}
 use Rattle.rules.specs.declared.step.Step.{Step}
 use Rattle.rules.specs.declared.step.Step.the-variants.{DeliverE, DeliverS, DeliverF, DeliverDecision, Suspect, Pause, Crash, Recover}
-use Rattle.rules.specs.declared.course.Course.{Course}
+use Rattle.rules.specs.Step.{Course}
 use Rattle.rules.specs.Limits.{greatestSize, storeLength, among}
 use Rattle.rules.specs.Tally.{holds}
 use Rattle.rules.specs.Records.{processAt, Sized}

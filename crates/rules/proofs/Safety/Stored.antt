@@ -16,7 +16,7 @@ use Rattle.rules.specs.declared.process.Process.{Process}
 use Rattle.rules.specs.declared.process.Next.{Next}
 use Rattle.rules.specs.declared.step.Step.{Step}
 use Rattle.rules.specs.declared.step.Step.the-variants.{DeliverE, DeliverS, DeliverF, DeliverDecision, Suspect, Pause, Crash, Recover}
-use Rattle.rules.specs.declared.course.Course.{Course}
+use Rattle.rules.specs.Step.{Course}
 use Rattle.rules.specs.Limits.{greatestSize}
 use Rattle.rules.specs.Records.{Stored, stored, processAt, withProcess, Sized}
 use Rattle.rules.specs.Start.{fresh, begun}

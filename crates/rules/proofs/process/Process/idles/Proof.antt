@@ -1,4 +1,5 @@
 -- `Process::idles` meets its contract: the cut picks the case. Assumes nothing.
+use Rattle.rules.specs.Parts.{lifted}
 use Rattle.rules.specs.Step.{idles}
 use borrow.Author.Needs.{needs}
 use Rattle.rules.proofs.process.Process.idles.Statement.{statement}
@@ -8,11 +9,11 @@ on-crash-requires : tie.Need-on-crash-requires
 on-crash-requires c κs = search needs
 
 returns : tie.Need-returns
-unfolding idles
+unfolding idles lifted
 returns c = rw (c .before .if1 .taken, c .on-crash .ensures)
 
 returns-2 : tie.Need-returns-2
-unfolding idles
+unfolding idles lifted
 returns-2 c = rw (c .if1 .left)
 
 pub idles-spec : {M : Type 1} → statement M

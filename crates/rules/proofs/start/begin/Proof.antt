@@ -1,0 +1,41 @@
+-- `begin` meets its contract: the clearings, then the handing over. Assumes nothing.
+use Rattle.rules.specs.Depths.{dated}
+use Rattle.rules.specs.Depths as deep
+use Rattle.rules.specs.Start.{opened, firstMessage}
+use Rattle.rules.specs.Store.{handOver, messageRound}
+use native.Mathlib.Omega.{arith}
+use mathlib.Core.Path.{ap, ap₂, _∙_}
+use borrow.Author.Needs.{needs}
+use Rattle.rules.proofs.start.begin.Statement.{statement}
+use Rattle.rules.proofs.start.begin.Tie as tie
+
+clear-requires : tie.Need-clear-requires
+clear-requires c κs = search needs
+
+hand-over-requires : tie.Need-hand-over-requires
+unfolding messageRound
+hand-over-requires c κs = omega (arith, c .before .before .before .before .before .before .clear .kept, c .before .before .before .before .before .before .before .before .before .before .before .pre)
+
+same-length : tie.Need-same-length
+same-length c = search needs
+
+same-length-2 : tie.Need-same-length-2
+same-length-2 c = search needs
+
+returns : tie.Need-returns
+unfolding opened deep.opened
+returns c =
+    let m = firstMessage (c .before .before .before .before .before .before .before .before .before .before .before .before .before .before .before .before .args .value) in
+    let h = c .before .before .before .before .hand-over .ensures in
+    let e = c .before .before .before .before .before .before .before .before .before .before .before .clear .ensures in
+    (h .store ∙ ap (handOver 1 m) (e .0), h .depths ∙ ap₂ (dated 1 m 0) (e .0) (e .1))
+
+pub begin-spec : {M : Type 1} → statement M
+begin-spec =
+    tie.close
+    (tie.spec
+    clear-requires
+    hand-over-requires
+    same-length
+    same-length-2
+    returns)

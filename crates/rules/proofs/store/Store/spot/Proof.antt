@@ -1,0 +1,90 @@
+-- `Store::spot` meets its contract: each kind of message has its place and its entry. Assumes nothing.
+use Rattle.rules.specs.Parts.{spotOf}
+use Rattle.rules.specs.Store.{placeOf, entryFor}
+use Rattle.rules.specs.declared.store.Spot.{Spot}
+use mathlib.Core.Path.{ap₂}
+use borrow.Author.Needs.{needs}
+use Rattle.rules.proofs.store.Store.spot.Statement.{statement}
+use Rattle.rules.proofs.store.Store.spot.Tie as tie
+
+enum-told : tie.Need-enum-told
+enum-told c = search needs
+
+enum-known-message : tie.Need-enum-known-message
+enum-known-message c = search needs
+
+slot-requires : tie.Need-slot-requires
+slot-requires c κs = search needs
+
+entry-of-requires : tie.Need-entry-of-requires
+entry-of-requires c κs = search needs
+
+enum-known-message-2 : tie.Need-enum-known-message-2
+enum-known-message-2 c = search needs
+
+slot-requires-2 : tie.Need-slot-requires-2
+slot-requires-2 c κs = search needs
+
+entry-of-requires-2 : tie.Need-entry-of-requires-2
+entry-of-requires-2 c κs = search needs
+
+enum-known-message-3 : tie.Need-enum-known-message-3
+enum-known-message-3 c = search needs
+
+slot-requires-3 : tie.Need-slot-requires-3
+slot-requires-3 c κs = search needs
+
+entry-of-requires-3 : tie.Need-entry-of-requires-3
+entry-of-requires-3 c κs = search needs
+
+enum-known-message-4 : tie.Need-enum-known-message-4
+enum-known-message-4 c = search needs
+
+decision-slot-requires : tie.Need-decision-slot-requires
+decision-slot-requires c κs = search needs
+
+entry-of-requires-4 : tie.Need-entry-of-requires-4
+entry-of-requires-4 c κs = search needs
+
+returns : tie.Need-returns
+unfolding spotOf
+returns c = rw (c .enum-told .given .1)
+
+returns-2 : tie.Need-returns-2
+unfolding spotOf placeOf entryFor
+returns-2 c = rw (c .before .before .before .message .given .1) (ap₂ Spot.At (c .before .slot .ensures) (c .entry-of .ensures))
+
+returns-3 : tie.Need-returns-3
+unfolding spotOf placeOf entryFor
+returns-3 c = rw (c .before .before .before .message2 .given .1) (ap₂ Spot.At (c .before .slot2 .ensures) (c .entry-of2 .ensures))
+
+returns-4 : tie.Need-returns-4
+unfolding spotOf placeOf entryFor
+returns-4 c = rw (c .before .before .before .message3 .given .1) (ap₂ Spot.At (c .before .slot3 .ensures) (c .entry-of3 .ensures))
+
+returns-5 : tie.Need-returns-5
+unfolding spotOf placeOf entryFor
+returns-5 c = rw (c .before .before .before .message4 .given .1) (ap₂ Spot.At (c .before .decision-slot .ensures) (c .entry-of4 .ensures))
+
+pub spot-spec : {M : Type 1} → statement M
+spot-spec =
+    tie.close
+    (tie.spec
+    enum-told
+    enum-known-message
+    slot-requires
+    entry-of-requires
+    enum-known-message-2
+    slot-requires-2
+    entry-of-requires-2
+    enum-known-message-3
+    slot-requires-3
+    entry-of-requires-3
+    enum-known-message-4
+    decision-slot-requires
+    entry-of-requires-4
+    returns
+    returns-2
+    returns-3
+    returns-4
+    returns-5)

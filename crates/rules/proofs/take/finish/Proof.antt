@@ -1,0 +1,56 @@
+-- `finish` meets its contract: the record and the depth are put back, then the messages are handed over. Assumes nothing.
+use Rattle.rules.proofs.CourseLaws.{finishes}
+use Rattle.rules.specs.Step.{decidesNow}
+use Prim.Native.Nat.{ℕ, max}
+use Rattle.rules.specs.Answers.{said}
+use Rattle.rules.specs.Records.{processAt, decidedIn}
+use mathlib.Core.Bool.{Bool, _&&_, not}
+use mathlib.Core.Path.{ap, _∙_}
+use borrow.Author.Needs.{needs}
+use Rattle.rules.proofs.take.finish.Statement.{statement}
+use Rattle.rules.proofs.take.finish.Tie as tie
+
+decided-of-requires : tie.Need-decided-of-requires
+decided-of-requires c κs = search needs
+
+depth-of-requires : tie.Need-depth-of-requires
+depth-of-requires c κs = search needs
+
+higher-requires : tie.Need-higher-requires
+higher-requires c κs = search needs
+
+put-deep-requires : tie.Need-put-deep-requires
+put-deep-requires c κs = search needs
+
+hand-over-both-requires : tie.Need-hand-over-both-requires
+hand-over-both-requires c κs = search needs
+
+decides-now-requires : tie.Need-decides-now-requires
+decides-now-requires c κs = search needs
+
+same-length : tie.Need-same-length
+same-length c = search needs
+
+same-length-2 : tie.Need-same-length-2
+same-length-2 c = search needs
+
+returns : tie.Need-returns
+unfolding said decidesNow processAt decidedIn
+returns c =
+    let a = c .before .before .before .before .before .before .before .before .before .before .before .before .before .before .before .before .before .before .before .before .before .args in
+    let e = c .before .before .before .before .before .before .before .before .before .before .before .before .before .higher .ensures ∙ ap (λ (k : ℕ). max k (a .lift)) (c .before .before .before .before .before .before .before .before .before .before .before .before .before .before .depth-of .ensures) in
+    finishes _ _ _ _ _ _ e (c .before .before .before .before .before .before .before .before .put-deep .ensures (a .n)) (c .before .before .before .before .before .hand-over-both .ensures) (c .decides-now .ensures ∙ ap (λ (b : Bool). a .next .process .decided && not b) (c .before .before .before .before .before .before .before .before .before .before .before .before .before .before .before .before .decided-of .ensures))
+
+pub finish-spec : {M : Type 1} → statement M
+finish-spec =
+    tie.close
+    (tie.spec
+    decided-of-requires
+    depth-of-requires
+    higher-requires
+    put-deep-requires
+    hand-over-both-requires
+    decides-now-requires
+    same-length
+    same-length-2
+    returns)

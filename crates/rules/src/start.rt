@@ -1,0 +1,111 @@
+// Start: a group of fresh processes over a store that holds process 1's E of round 0 and nothing else.
+// A start is refused by 11, 14 or 1, and then leaves both stores as they were.
+ghost use mathlib.Core.Path.{_≡_};
+ghost use Prim.Native.Nat.{_≤_};
+ghost use lib.ListN.{length};
+ghost use Rattle.rules.specs.Limits as limits;
+ghost use Rattle.rules.specs.Records as records;
+ghost use Rattle.rules.specs.Depths as deep;
+ghost use Rattle.rules.specs.Start as starts;
+use crate::group;
+use crate::group::Bytes;
+use crate::group::Flags;
+use crate::group::Group;
+use crate::group::Halves;
+use crate::group::Taken;
+use crate::group::Words;
+use crate::process::Message;
+use crate::process::Process;
+use crate::step::Answer;
+use crate::store::Store;
+
+// Starts the first processes of a group with the values, one record for each.
+pub(crate) fn fill(
+    values: &[u32],
+    words: &mut Words,
+    halves: &mut Halves,
+    bytes: &mut Bytes,
+    flags: &mut Flags,
+)
+    requires { ⌜ (length (now values) ≤ limits.greatestSize) × (records.groupOf (length (now values)) (now words) (now halves) (now bytes) (now flags) ≡ records.blankGroup (length (now values))) ⌝ }
+    ensures { λ r. ⌜ records.groupOf (length (now (values .entry))) (now (words .exit)) (now (halves .exit)) (now (bytes .exit)) (now (flags .exit)) ≡ starts.startedTo (now (values .entry)) (length (now (values .entry))) ⌝ }
+{
+    let mut k: usize = 0;
+    while k < values.len() {
+        let i = (k + 1) as u8;
+        group::put_back(words, halves, bytes, flags, i, Process::fresh(i, values[k]));
+        k += 1;
+    }
+}
+
+// Clears the store and the depths, and hands process 1's E of round 0 over, whose depth is 0.
+pub(crate) fn begin(value: u32, store: &mut [u64], depths: &mut [u16])
+    requires { ⌜ (limits.storeLength ≤ length (now store)) × (limits.storeLength ≤ length (now depths)) ⌝ }
+    ensures { λ r. ⌜ (now (store .exit) ≡ starts.opened value (now (store .entry))) × (now (depths .exit) ≡ deep.opened value (now (store .entry)) (now (depths .entry))) ⌝ }
+{
+    Store::clear(store, depths);
+    Store::hand_over(
+        store,
+        depths,
+        0,
+        1,
+        Message::E {
+            round: 0,
+            proposer: 1,
+            value,
+        },
+    );
+}
+
+impl Group {
+    // A group of one process for each value, with process 1's E of round 0 in a store that is cleared before, and all depths 0. Refused: a group of size 0, and both stores as they were.
+    pub fn start(values: &[u32], store: &mut [u64], depths: &mut [u16]) -> Taken
+        ensures { λ r. ⌜ deep.Starts (now (values .entry)) (now (store .entry)) (now (depths .entry)) r (now (store .exit)) (now (depths .exit)) ⌝ }
+    {
+        if store.len() < Store::LENGTH {
+            return Taken {
+                group: Group::none(),
+                answer: Answer::Refused(11),
+            };
+        }
+        if depths.len() < Store::LENGTH {
+            return Taken {
+                group: Group::none(),
+                answer: Answer::Refused(14),
+            };
+        }
+        let n = values.len();
+        if n == 0 {
+            return Taken {
+                group: Group::none(),
+                answer: Answer::Refused(1),
+            };
+        }
+        if Group::GREATEST < n {
+            return Taken {
+                group: Group::none(),
+                answer: Answer::Refused(1),
+            };
+        }
+        let mut words = [0u32; 3 * Group::GREATEST];
+        let mut halves = [0u16; 3 * Group::GREATEST];
+        let mut bytes = [0u8; 4 * Group::GREATEST];
+        let mut flags = [false; 3 * Group::GREATEST];
+        fill(values, &mut words, &mut halves, &mut bytes, &mut flags);
+        begin(values[0], store, depths);
+        let group = Group {
+            n: n as u8,
+            words: words,
+            halves: halves,
+            bytes: bytes,
+            flags: flags,
+        };
+        Taken {
+            group: group,
+            answer: Answer::Applied {
+                sent: 1,
+                decided: false,
+            },
+        }
+    }
+}
