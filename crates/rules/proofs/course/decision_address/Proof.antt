@@ -31,14 +31,8 @@ module _ (n i j : ℕ) (a : Address) where
   unfolding row unlessMissed
   reaches x y = rw (x, y)
 
-among-requires : tie.Need-among-requires
-among-requires c κs = search needs
-
 returns : tie.Need-returns
 returns c = strange-to _ _ _ _ (sym (c .before .among .ensures) ∙ not-true _ (c .if1 .taken))
-
-among-requires-2 : tie.Need-among-requires-2
-among-requires-2 c κs = search needs
 
 returns-2 : tie.Need-returns-2
 returns-2 c = strange-from _ _ _ _ (sym (c .before .before .before .among .ensures) ∙ not-false _ (c .before .before .if1 .left)) (sym (c .before .among2 .ensures) ∙ not-true _ (c .if2 .taken))
@@ -61,9 +55,9 @@ pub decision-address-spec : {M : Type 1} → statement M
 decision-address-spec =
     tie.close
     (tie.spec
-    among-requires
+    (λ c κs. search needs)
     returns
-    among-requires-2
+    (λ c κs. search needs)
     returns-2
     cast-taker
     cast-decision-slot

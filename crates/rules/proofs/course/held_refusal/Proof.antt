@@ -38,9 +38,6 @@ module _ (n : ℕ) (up : Bool) (e k : ℕ) (d b : Bool) where
     unfolding heldRows row
     fit y z w h = rw (x, y, z, w, le-ltb deepestMessage k h)
 
-is-down-requires : tie.Need-is-down-requires
-is-down-requires c κs = search needs
-
 returns : tie.Need-returns
 returns c =
     let a = c .before .before .args in
@@ -55,12 +52,6 @@ returns-3 : tie.Need-returns-3
 returns-3 c =
     let a = c .before .before .before .before .args in
     unsent (a .n) (a .up) (a .entry) (a .depth) (a .delivers) (a .recovers) (sym (c .before .before .before .is-down .ensures) ∙ c .before .before .if1 .left) (not-false _ (c .before .if2 .left)) (eq-eqb _ 0 (c .if3 .taken))
-
-cast-among : tie.Need-cast-among
-cast-among c = search needs
-
-among-requires : tie.Need-among-requires
-among-requires c κs = search needs
 
 returns-4 : tie.Need-returns-4
 returns-4 c =
@@ -81,12 +72,12 @@ pub held-refusal-spec : {M : Type 1} → statement M
 held-refusal-spec =
     tie.close
     (tie.spec
-    is-down-requires
+    (λ c κs. search needs)
     returns
     returns-2
     returns-3
-    cast-among
-    among-requires
+    (λ c. search needs)
+    (λ c κs. search needs)
     returns-4
     returns-5
     returns-6)

@@ -36,33 +36,21 @@ module _ (n i j r : ℕ) (a : Address) where
   unfolding row unlessMissed
   reaches x y h = rw (x, y, le-ltb lastRound r h)
 
-among-requires : tie.Need-among-requires
-among-requires c κs = search needs
-
 returns : tie.Need-returns
 returns c =
     let a = c .before .before .args in
     strange-to (a .n) (a .to) (a .from) (a .round) _ (sym (c .before .among .ensures) ∙ not-true _ (c .if1 .taken))
-
-among-requires-2 : tie.Need-among-requires-2
-among-requires-2 c κs = search needs
 
 returns-2 : tie.Need-returns-2
 returns-2 c =
     let a = c .before .before .before .before .args in
     strange-from (a .n) (a .to) (a .from) (a .round) _ (sym (c .before .before .before .among .ensures) ∙ not-false _ (c .before .before .if1 .left)) (sym (c .before .among2 .ensures) ∙ not-true _ (c .if2 .taken))
 
-cast-if3 : tie.Need-cast-if3
-cast-if3 c = search needs
-
 returns-3 : tie.Need-returns-3
 returns-3 c = too-late _ _ _ _ _ (sym (c .before .before .before .before .among .ensures) ∙ not-false _ (c .before .before .before .if1 .left)) (sym (c .before .before .among2 .ensures) ∙ not-false _ (c .before .if2 .left)) (c .if3 .taken)
 
 cast-taker : tie.Need-cast-taker
 cast-taker c = omega (arith, among-true (c .before .before .before .before .before .args .n) (c .before .before .before .before .before .args .to) (sym (c .before .before .before .before .among .ensures) ∙ not-false _ (c .before .before .before .if1 .left)))
-
-cast-slot : tie.Need-cast-slot
-cast-slot c = search needs
 
 cast-slot-2 : tie.Need-cast-slot-2
 cast-slot-2 c = omega (arith, among-true (c .before .before .before .before .before .args .n) (c .before .before .before .before .before .args .from) (sym (c .before .before .among2 .ensures) ∙ not-false _ (c .before .if2 .left)))
@@ -79,14 +67,14 @@ pub message-address-spec : {M : Type 1} → statement M
 message-address-spec =
     tie.close
     (tie.spec
-    among-requires
+    (λ c κs. search needs)
     returns
-    among-requires-2
+    (λ c κs. search needs)
     returns-2
-    cast-if3
+    (λ c. search needs)
     returns-3
     cast-taker
-    cast-slot
+    (λ c. search needs)
     cast-slot-2
     slot-requires
     returns-4)

@@ -23,9 +23,6 @@ module _ (n i : ℕ) (a : Address) where
   unfolding row unlessMissed
   reaches x = rw x
 
-among-requires : tie.Need-among-requires
-among-requires c κs = search needs
-
 returns : tie.Need-returns
 returns c = strange _ _ _ (sym (c .before .among .ensures) ∙ not-true _ (c .if1 .taken))
 
@@ -36,4 +33,4 @@ returns-2 : tie.Need-returns-2
 returns-2 c = reaches _ _ _ (sym (c .before .among .ensures) ∙ not-false _ (c .if1 .left))
 
 pub own-address-spec : {M : Type 1} → statement M
-own-address-spec = tie.close (tie.spec among-requires returns cast-taker returns-2)
+own-address-spec = tie.close (tie.spec (λ c κs. search needs) returns cast-taker returns-2)

@@ -17,12 +17,6 @@ use Rattle.rules.proofs.course.way_of.Tie as tie
 address-requires : tie.Need-address-requires
 address-requires c κs = deep-facts _ (c .before .before .pre .sound) .0 .high
 
-enum-known-address : tie.Need-enum-known-address
-enum-known-address c = search needs
-
-enum-known-address-2 : tie.Need-enum-known-address-2
-enum-known-address-2 c = search needs
-
 mul-entry : tie.Need-mul-entry
 mul-entry c =
     let t = reached _ _ (sym (c .before .before .before .address .ensures) ∙ c .before .address3 .given .1) in
@@ -68,8 +62,8 @@ way-of-spec =
     tie.close
     (tie.spec
     address-requires
-    enum-known-address
-    enum-known-address-2
+    (λ c. search needs)
+    (λ c. search needs)
     mul-entry
     shared-slice-read-entry
     mul-depth

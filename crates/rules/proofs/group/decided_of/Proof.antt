@@ -5,22 +5,10 @@ use borrow.Author.Needs.{needs}
 use Rattle.rules.proofs.group.decided_of.Statement.{statement}
 use Rattle.rules.proofs.group.decided_of.Tie as tie
 
-sub-result : tie.Need-sub-result
-sub-result c = search needs
-
-cast-result : tie.Need-cast-result
-cast-result c = search needs
-
-add-result : tie.Need-add-result
-add-result c = search needs
-
-element-copy-out-result : tie.Need-element-copy-out-result
-element-copy-out-result c = search needs
-
 returns : tie.Need-returns
 unfolding decidedIn
 returns c = refl
 
 pub decided-of-spec : {M : Type 1} → statement M
 decided-of-spec =
-    tie.close (tie.spec sub-result cast-result add-result element-copy-out-result returns)
+    tie.close (tie.spec (λ c. search needs) (λ c. search needs) (λ c. search needs) (λ c. search needs) returns)

@@ -5,21 +5,6 @@ use borrow.Author.Needs.{needs}
 use Rattle.rules.proofs.group.depth_of.Statement.{statement}
 use Rattle.rules.proofs.group.depth_of.Tie as tie
 
-sub-result : tie.Need-sub-result
-sub-result c = search needs
-
-cast-result : tie.Need-cast-result
-cast-result c = search needs
-
-add-result : tie.Need-add-result
-add-result c = search needs
-
-mul-result : tie.Need-mul-result
-mul-result c = search needs
-
-element-copy-out-result : tie.Need-element-copy-out-result
-element-copy-out-result c = search needs
-
 returns : tie.Need-returns
 unfolding depthIn
 returns c = refl
@@ -27,4 +12,4 @@ returns c = refl
 pub depth-of-spec : {M : Type 1} → statement M
 depth-of-spec =
     tie.close
-    (tie.spec sub-result cast-result add-result mul-result element-copy-out-result returns)
+    (tie.spec (λ c. search needs) (λ c. search needs) (λ c. search needs) (λ c. search needs) (λ c. search needs) returns)

@@ -6,24 +6,6 @@ use borrow.Author.Needs.{needs}
 use Rattle.rules.proofs.group.put_deep.Statement.{statement}
 use Rattle.rules.proofs.group.put_deep.Tie as tie
 
-put-back-requires : tie.Need-put-back-requires
-put-back-requires c κs = search needs
-
-sub-halves : tie.Need-sub-halves
-sub-halves c = search needs
-
-cast-halves : tie.Need-cast-halves
-cast-halves c = search needs
-
-add-halves : tie.Need-add-halves
-add-halves c = search needs
-
-mul-halves : tie.Need-mul-halves
-mul-halves c = search needs
-
-element-write-halves : tie.Need-element-write-halves
-element-write-halves c = search needs
-
 returns : tie.Need-returns
 unfolding withDepth
 returns c = λ n. ap (λ (g : Group). withDepth g (c .before .before .before .before .before .args .i) (c .before .before .before .before .before .args .depth)) (c .put-back .ensures n)
@@ -32,10 +14,10 @@ pub put-deep-spec : {M : Type 1} → statement M
 put-deep-spec =
     tie.close
     (tie.spec
-    put-back-requires
-    sub-halves
-    cast-halves
-    add-halves
-    mul-halves
-    element-write-halves
+    (λ c κs. search needs)
+    (λ c. search needs)
+    (λ c. search needs)
+    (λ c. search needs)
+    (λ c. search needs)
+    (λ c. search needs)
     returns)

@@ -5,14 +5,8 @@ use borrow.Author.Needs.{needs}
 use Rattle.rules.proofs.process.coordinator.Statement.{statement}
 use Rattle.rules.proofs.process.coordinator.Tie as tie
 
-rem-result : tie.Need-rem-result
-rem-result c = search needs
-
 add-result : tie.Need-add-result
 add-result c = omega (arith, mod-lt (c .args .round) (c .pre))
 
-returns : tie.Need-returns
-returns c = search needs
-
 pub coordinator-spec : {M : Type 1} → statement M
-coordinator-spec = tie.close (tie.spec rem-result add-result returns)
+coordinator-spec = tie.close (tie.spec (λ c. search needs) add-result (λ c. search needs))

@@ -5,9 +5,6 @@ use Rattle.rules.specs.Events.{opens, opensIf}
 use Rattle.rules.proofs.process.opens.Statement.{statement}
 use Rattle.rules.proofs.process.opens.Tie as tie
 
-coordinator-requires : tie.Need-coordinator-requires
-coordinator-requires c κs = search needs
-
 returns : tie.Need-returns
 unfolding opens opensIf
 returns c = rw (← (c .before .coordinator .ensures), eq-eqb _ _ (c .if1 .taken))
@@ -17,4 +14,4 @@ unfolding opens opensIf
 returns-2 c = rw (← (c .before .coordinator .ensures), ne-eqb _ _ (c .if1 .left))
 
 pub opens-spec : {M : Type 1} → statement M
-opens-spec = tie.close (tie.spec coordinator-requires returns returns-2)
+opens-spec = tie.close (tie.spec (λ c κs. search needs) returns returns-2)

@@ -9,18 +9,9 @@ use borrow.Author.Needs.{needs}
 use Rattle.rules.proofs.start.begin.Statement.{statement}
 use Rattle.rules.proofs.start.begin.Tie as tie
 
-clear-requires : tie.Need-clear-requires
-clear-requires c κs = search needs
-
 hand-over-requires : tie.Need-hand-over-requires
 unfolding messageRound
 hand-over-requires c κs = omega (arith, c .before .before .before .before .before .before .clear .kept, c .before .before .before .before .before .before .before .before .before .before .before .pre)
-
-same-length : tie.Need-same-length
-same-length c = search needs
-
-same-length-2 : tie.Need-same-length-2
-same-length-2 c = search needs
 
 returns : tie.Need-returns
 unfolding opened deep.opened
@@ -34,8 +25,8 @@ pub begin-spec : {M : Type 1} → statement M
 begin-spec =
     tie.close
     (tie.spec
-    clear-requires
+    (λ c κs. search needs)
     hand-over-requires
-    same-length
-    same-length-2
+    (λ c. search needs)
+    (λ c. search needs)
     returns)

@@ -42,9 +42,6 @@ mul-fresh c = omega (arith, c .before .before .before .before .before .loop .inv
 shared-slice-read-fresh : tie.Need-shared-slice-read-fresh Inv-loop μ-loop
 shared-slice-read-fresh c = omega (arith, c .before .before .before .before .before .loop-test .taken)
 
-fresh-requires : tie.Need-fresh-requires Inv-loop μ-loop
-fresh-requires c κs = search needs
-
 put-back-requires : tie.Need-put-back-requires Inv-loop μ-loop
 put-back-requires c κs = omega (arith, c .before .before .before .before .before .before .before .loop .inv, c .before .before .before .before .before .before .loop-test .taken)
 
@@ -74,7 +71,7 @@ fill-spec =
     cast-i
     mul-fresh
     shared-slice-read-fresh
-    fresh-requires
+    (λ c κs. search needs)
     put-back-requires
     add-k
     loop-less

@@ -10,30 +10,6 @@ use borrow.Author.Needs.{needs}
 use Rattle.rules.proofs.take.finish.Statement.{statement}
 use Rattle.rules.proofs.take.finish.Tie as tie
 
-decided-of-requires : tie.Need-decided-of-requires
-decided-of-requires c κs = search needs
-
-depth-of-requires : tie.Need-depth-of-requires
-depth-of-requires c κs = search needs
-
-higher-requires : tie.Need-higher-requires
-higher-requires c κs = search needs
-
-put-deep-requires : tie.Need-put-deep-requires
-put-deep-requires c κs = search needs
-
-hand-over-both-requires : tie.Need-hand-over-both-requires
-hand-over-both-requires c κs = search needs
-
-decides-now-requires : tie.Need-decides-now-requires
-decides-now-requires c κs = search needs
-
-same-length : tie.Need-same-length
-same-length c = search needs
-
-same-length-2 : tie.Need-same-length-2
-same-length-2 c = search needs
-
 returns : tie.Need-returns
 unfolding said decidesNow processAt decidedIn
 returns c =
@@ -45,12 +21,12 @@ pub finish-spec : {M : Type 1} → statement M
 finish-spec =
     tie.close
     (tie.spec
-    decided-of-requires
-    depth-of-requires
-    higher-requires
-    put-deep-requires
-    hand-over-both-requires
-    decides-now-requires
-    same-length
-    same-length-2
+    (λ c κs. search needs)
+    (λ c κs. search needs)
+    (λ c κs. search needs)
+    (λ c κs. search needs)
+    (λ c κs. search needs)
+    (λ c κs. search needs)
+    (λ c. search needs)
+    (λ c. search needs)
     returns)

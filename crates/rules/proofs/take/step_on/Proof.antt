@@ -16,21 +16,12 @@ returns-2 : tie.Need-returns-2
 unfolding said short
 returns-2 c = shallow-outcome _ _ _ _ (le-ltb _ _ (c .before .if1 .left)) (lt-ltb _ _ (c .if2 .taken))
 
-damaged-requires : tie.Need-damaged-requires
-damaged-requires c κs = search needs
-
 returns-3 : tie.Need-returns-3
 unfolding said short
 returns-3 c = damaged-outcome _ _ _ _ (le-ltb _ _ (c .before .before .before .before .before .before .before .if1 .left)) (le-ltb _ _ (c .before .before .before .before .before .before .if2 .left)) (sym (c .before .damaged .ensures) ∙ c .if3 .taken)
 
 step-sound-requires : tie.Need-step-sound-requires
 step-sound-requires c κs = record { long = c .before .before .before .before .before .before .before .before .before .before .before .before .before .if1 .left; deep-long = c .before .before .before .before .before .before .before .before .before .before .before .before .if2 .left; sound = sym (c .before .before .before .before .before .before .before .damaged .ensures) ∙ c .before .before .before .before .before .before .if3 .left }
-
-same-length : tie.Need-same-length
-same-length c = search needs
-
-same-length-2 : tie.Need-same-length-2
-same-length-2 c = search needs
 
 returns-4 : tie.Need-returns-4
 returns-4 c = c .before .before .before .before .step-sound .ensures
@@ -41,9 +32,9 @@ step-on-spec =
     (tie.spec
     returns
     returns-2
-    damaged-requires
+    (λ c κs. search needs)
     returns-3
     step-sound-requires
-    same-length
-    same-length-2
+    (λ c. search needs)
+    (λ c. search needs)
     returns-4)

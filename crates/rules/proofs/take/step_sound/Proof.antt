@@ -8,48 +8,21 @@ use borrow.Author.Needs.{needs}
 use Rattle.rules.proofs.take.step_sound.Statement.{statement}
 use Rattle.rules.proofs.take.step_sound.Tie as tie
 
-way-of-requires : tie.Need-way-of-requires
-way-of-requires c κs = search needs
-
 enum-told : tie.Need-enum-told
 enum-told c = search needs
-
-enum-known-way : tie.Need-enum-known-way
-enum-known-way c = search needs
-
-enum-known-way-2 : tie.Need-enum-known-way-2
-enum-known-way-2 c = search needs
 
 finish-requires : tie.Need-finish-requires
 finish-requires c κs =
     let e = sym (c .before .before .before .before .before .before .before .before .before .way-of .ensures) ∙ c .before .before .before .before .before .before .before .way2 .given .1 in
     (takes-handable _ _ _ _ (c .before .before .before .before .before .before .before .before .before .before .before .before .before .before .before .before .before .before .pre) (way-takes _ _ e .0), taken-lift _ _ _ _ e)
 
-same-length : tie.Need-same-length
-same-length c = search needs
-
-same-length-2 : tie.Need-same-length-2
-same-length-2 c = search needs
-
 returns : tie.Need-returns
 unfolding said
 returns c = idle-outcome _ _ _ _ (way-idles _ _ (sym (c .before .before .way-of .ensures) ∙ c .enum-told .given .1))
 
-same-length-3 : tie.Need-same-length-3
-same-length-3 c = search needs
-
-same-length-4 : tie.Need-same-length-4
-same-length-4 c = search needs
-
 returns-2 : tie.Need-returns-2
 unfolding said
 returns-2 c = refused-outcome _ _ _ _ (way-refuses _ _ (sym (c .before .before .before .way-of .ensures) ∙ c .before .way .given .1))
-
-same-length-5 : tie.Need-same-length-5
-same-length-5 c = search needs
-
-same-length-6 : tie.Need-same-length-6
-same-length-6 c = search needs
 
 returns-3 : tie.Need-returns-3
 unfolding depthAt
@@ -59,17 +32,17 @@ pub step-sound-spec : {M : Type 1} → statement M
 step-sound-spec =
     tie.close
     (tie.spec
-    way-of-requires
+    (λ c κs. search needs)
     enum-told
-    enum-known-way
-    enum-known-way-2
+    (λ c. search needs)
+    (λ c. search needs)
     finish-requires
-    same-length
-    same-length-2
+    (λ c. search needs)
+    (λ c. search needs)
     returns
-    same-length-3
-    same-length-4
+    (λ c. search needs)
+    (λ c. search needs)
     returns-2
-    same-length-5
-    same-length-6
+    (λ c. search needs)
+    (λ c. search needs)
     returns-3)

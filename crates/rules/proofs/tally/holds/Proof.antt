@@ -5,18 +5,9 @@ use Rattle.rules.specs.Tally.{holds}
 use Rattle.rules.proofs.tally.holds.Statement.{statement}
 use Rattle.rules.proofs.tally.holds.Tie as tie
 
-sub-result : tie.Need-sub-result
-sub-result c = search needs
-
-cast-result : tie.Need-cast-result
-cast-result c = search needs
-
-shr-result : tie.Need-shr-result
-shr-result c = search needs
-
 returns : tie.Need-returns
 unfolding holds
 returns c = refl
 
 pub holds-spec : {M : Type 1} → statement M
-holds-spec = tie.close (tie.spec sub-result cast-result shr-result returns)
+holds-spec = tie.close (tie.spec (λ c. search needs) (λ c. search needs) (λ c. search needs) returns)

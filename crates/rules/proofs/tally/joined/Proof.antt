@@ -10,15 +10,6 @@ use Rattle.rules.specs.Tally.{joined}
 use Rattle.rules.proofs.tally.joined.Statement.{statement}
 use Rattle.rules.proofs.tally.joined.Tie as tie
 
-sub-result : tie.Need-sub-result
-sub-result c = search needs
-
-cast-result : tie.Need-cast-result
-cast-result c = search needs
-
-shl-result : tie.Need-shl-result
-shl-result c = search needs
-
 returns : tie.Need-returns
 unfolding joined
 returns c =
@@ -26,4 +17,4 @@ returns c =
     ap (bitOr (c .args .tally)) (ap (λ (x : ℕ). x % 65536) (one-mul (2 ^ k)) ∙ mod-eq-of-lt (pow-lt {i = k} {j = 16} (omega arith)))
 
 pub joined-spec : {M : Type 1} → statement M
-joined-spec = tie.close (tie.spec sub-result cast-result shl-result returns)
+joined-spec = tie.close (tie.spec (λ c. search needs) (λ c. search needs) (λ c. search needs) returns)

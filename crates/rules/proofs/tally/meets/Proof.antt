@@ -8,15 +8,9 @@ use Rattle.rules.specs.Tally.{meets}
 use Rattle.rules.proofs.tally.meets.Statement.{statement}
 use Rattle.rules.proofs.tally.meets.Tie as tie
 
-majority-requires : tie.Need-majority-requires
-majority-requires c κs = search needs
-
-cast-result : tie.Need-cast-result
-cast-result c = search needs
-
 returns : tie.Need-returns
 unfolding meets
 returns c = ap (λ (m : ℕ). leb m (ones (c .before .args .tally))) (c .majority .ensures)
 
 pub meets-spec : {M : Type 1} → statement M
-meets-spec = tie.close (tie.spec majority-requires cast-result returns)
+meets-spec = tie.close (tie.spec (λ c κs. search needs) (λ c. search needs) returns)

@@ -24,9 +24,6 @@ both-more a b = go (leb a b) refl
     go true e = sym (le-leb (suc a) (suc b) (omega (arith, leb-true a b e)))
     go false e = sym (lt-leb (suc a) (suc b) (omega (arith, leb-false a b e)))
 
-shl-result : tie.Need-shl-result
-shl-result c = search needs
-
 sub-result : tie.Need-sub-result
 sub-result c = omega (arith, shifted (c .args .n) (c .pre), pow-pos (c .args .n))
 
@@ -38,4 +35,4 @@ unfolding within
 returns c = ap (λ (x : ℕ). leb (c .args .tally) (x - 1)) (shifted (c .args .n) (c .pre)) ∙ both-more (c .args .tally) (2 ^ c .args .n - 1) ∙ ap (leb (suc (c .args .tally))) (suc-ones (c .args .n))
 
 pub within-spec : {M : Type 1} → statement M
-within-spec = tie.close (tie.spec shl-result sub-result cast-result returns)
+within-spec = tie.close (tie.spec (λ c. search needs) sub-result cast-result returns)

@@ -20,9 +20,6 @@ inside : (g : Group) (i : ℕ) → among 16 i ≡ true → depthIn (g .halves) i
 unfolding depthOf depthIf depthAt among
 inside g i a = rw a
 
-among-requires : tie.Need-among-requires
-among-requires c κs = search needs
-
 returns : tie.Need-returns
 returns c = outside _ _ (sym (c .before .among .ensures) ∙ not-true _ (c .if1 .taken))
 
@@ -36,4 +33,4 @@ returns-2 : tie.Need-returns-2
 returns-2 c = c .depth-of .ensures ∙ inside (c .before .before .before .before .before .args .self) (c .before .before .before .before .before .args .process) (sym (c .before .before .before .before .among .ensures) ∙ not-false _ (c .before .before .before .if1 .left))
 
 pub depth-spec : {M : Type 1} → statement M
-depth-spec = tie.close (tie.spec among-requires returns cast-depth-of depth-of-requires returns-2)
+depth-spec = tie.close (tie.spec (λ c κs. search needs) returns cast-depth-of depth-of-requires returns-2)

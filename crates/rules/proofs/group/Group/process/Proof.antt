@@ -20,12 +20,6 @@ inside : (g : Group) (i : ℕ) → among 16 i ≡ true → processAt g i ≡ rec
 unfolding recordOf recordIf among
 inside g i a = rw a
 
-among-requires : tie.Need-among-requires
-among-requires c κs = search needs
-
-blank-requires : tie.Need-blank-requires
-blank-requires c κs = search needs
-
 returns : tie.Need-returns
 returns c = c .blank .ensures ∙ outside _ _ (sym (c .before .before .among .ensures) ∙ not-true _ (c .before .if1 .taken))
 
@@ -41,4 +35,4 @@ returns-2 c = c .take-out .ensures (c .before .before .before .before .before .b
 pub process-spec : {M : Type 1} → statement M
 process-spec =
     tie.close
-    (tie.spec among-requires blank-requires returns cast-take-out take-out-requires returns-2)
+    (tie.spec (λ c κs. search needs) (λ c κs. search needs) returns cast-take-out take-out-requires returns-2)

@@ -59,29 +59,17 @@ module _ (vs l d : List ℕ) where
           (λ t. outcome (e t) (h .0 t) (h .1 t) (saysApplied 1 false))
           ∙ rw (le-ltb (length l) storeLength long, le-ltb (length d) storeLength deep-long, m)
 
-none-requires : tie.Need-none-requires
-none-requires c κs = search needs
-
 returns : tie.Need-returns
 unfolding said
 returns c = too-short _ _ _ (c .none .ensures) (c .before .if1 .taken)
-
-none-requires-2 : tie.Need-none-requires-2
-none-requires-2 c κs = search needs
 
 returns-2 : tie.Need-returns-2
 unfolding said
 returns-2 c = too-few _ _ _ (c .before .before .if1 .left) (c .none2 .ensures) (c .before .if2 .taken)
 
-none-requires-3 : tie.Need-none-requires-3
-none-requires-3 c κs = search needs
-
 returns-3 : tie.Need-returns-3
 unfolding said
 returns-3 c = not-counted _ _ _ (c .before .before .before .if1 .left) (c .before .before .if2 .left) (c .none3 .ensures) (none-given _ (c .before .if3 .taken))
-
-none-requires-4 : tie.Need-none-requires-4
-none-requires-4 c κs = search needs
 
 returns-4 : tie.Need-returns-4
 unfolding said
@@ -91,21 +79,6 @@ fill-requires : tie.Need-fill-requires
 unfolding blankGroup
 fill-requires c κs = (omega arith, refl)
 
-shared-slice-read-begin : tie.Need-shared-slice-read-begin
-shared-slice-read-begin c = search needs
-
-begin-requires : tie.Need-begin-requires
-begin-requires c κs = search needs
-
-cast-t31 : tie.Need-cast-t31
-cast-t31 c = search needs
-
-same-length : tie.Need-same-length
-same-length c = search needs
-
-same-length-2 : tie.Need-same-length-2
-same-length-2 c = search needs
-
 returns-5 : tie.Need-returns-5
 unfolding said begun
 returns-5 c = counted _ _ _ (c .before .before .before .before .before .before .before .before .before .before .before .before .before .before .before .before .if1 .left) (c .before .before .before .before .before .before .before .before .before .before .before .before .before .before .before .if2 .left) (enough _ (c .before .before .before .before .before .before .before .before .before .before .before .before .before .before .if3 .left) (c .before .before .before .before .before .before .before .before .before .before .before .before .before .if4 .left)) (c .before .before .before .before .before .before .before .before .fill .ensures) (c .before .before .before .before .begin .ensures)
@@ -114,18 +87,18 @@ pub start-spec : {M : Type 1} → statement M
 start-spec =
     tie.close
     (tie.spec
-    none-requires
+    (λ c κs. search needs)
     returns
-    none-requires-2
+    (λ c κs. search needs)
     returns-2
-    none-requires-3
+    (λ c κs. search needs)
     returns-3
-    none-requires-4
+    (λ c κs. search needs)
     returns-4
     fill-requires
-    shared-slice-read-begin
-    begin-requires
-    cast-t31
-    same-length
-    same-length-2
+    (λ c. search needs)
+    (λ c κs. search needs)
+    (λ c. search needs)
+    (λ c. search needs)
+    (λ c. search needs)
     returns-5)

@@ -5,12 +5,6 @@ use Rattle.rules.specs.Events.{changed, adopts, adoptsIf}
 use Rattle.rules.proofs.process.Next.adopts.Statement.{statement}
 use Rattle.rules.proofs.process.Next.adopts.Tie as tie
 
-coordinator-requires : tie.Need-coordinator-requires
-coordinator-requires c κs = search needs
-
-takes-requires : tie.Need-takes-requires
-takes-requires c κs = search needs
-
 returns : tie.Need-returns
 unfolding adopts adoptsIf changed
 returns c = rw (← (c .before .before .coordinator .ensures), eq-eqb _ _ (c .before .if1 .taken), c .takes .ensures)
@@ -20,4 +14,4 @@ unfolding adopts adoptsIf
 returns-2 c = rw (← (c .before .coordinator .ensures), ne-eqb _ _ (c .if1 .left))
 
 pub adopts-spec : {M : Type 1} → statement M
-adopts-spec = tie.close (tie.spec coordinator-requires takes-requires returns returns-2)
+adopts-spec = tie.close (tie.spec (λ c κs. search needs) (λ c κs. search needs) returns returns-2)

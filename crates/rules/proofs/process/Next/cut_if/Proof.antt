@@ -4,9 +4,6 @@ use Rattle.rules.specs.Events.{cutIf}
 use Rattle.rules.proofs.process.Next.cut_if.Statement.{statement}
 use Rattle.rules.proofs.process.Next.cut_if.Tie as tie
 
-on-crash-requires : tie.Need-on-crash-requires
-on-crash-requires c κs = search needs
-
 returns : tie.Need-returns
 unfolding cutIf
 returns c = rw (c .before .before .if1 .taken) (c .on-crash .ensures)
@@ -16,4 +13,4 @@ unfolding cutIf
 returns-2 c = rw (c .if1 .left)
 
 pub cut-if-spec : {M : Type 1} → statement M
-cut-if-spec = tie.close (tie.spec on-crash-requires returns returns-2)
+cut-if-spec = tie.close (tie.spec (λ c κs. search needs) returns returns-2)

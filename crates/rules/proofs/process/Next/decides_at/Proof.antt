@@ -5,12 +5,6 @@ use Rattle.rules.specs.Events.{decidesAt, decidesIf}
 use Rattle.rules.proofs.process.Next.decides_at.Statement.{statement}
 use Rattle.rules.proofs.process.Next.decides_at.Tie as tie
 
-meets-requires : tie.Need-meets-requires
-meets-requires c κs = search needs
-
-decides-requires : tie.Need-decides-requires
-decides-requires c κs = search needs
-
 returns : tie.Need-returns
 unfolding decidesAt decidesIf
 returns c = rw (sym (c .before .before .meets .ensures) ∙ c .before .if1 .taken, c .decides .ensures)
@@ -20,4 +14,4 @@ unfolding decidesAt decidesIf
 returns-2 c = rw (sym (c .before .meets .ensures) ∙ c .if1 .left)
 
 pub decides-at-spec : {M : Type 1} → statement M
-decides-at-spec = tie.close (tie.spec meets-requires decides-requires returns returns-2)
+decides-at-spec = tie.close (tie.spec (λ c κs. search needs) (λ c κs. search needs) returns returns-2)

@@ -5,21 +5,6 @@ use Rattle.rules.specs.Events.{entersNextAt, entersNextIf}
 use Rattle.rules.proofs.process.Next.enters_next_at.Statement.{statement}
 use Rattle.rules.proofs.process.Next.enters_next_at.Tie as tie
 
-meets-requires : tie.Need-meets-requires
-meets-requires c κs = search needs
-
-add-round : tie.Need-add-round
-add-round c = search needs
-
-takes-requires : tie.Need-takes-requires
-takes-requires c κs = search needs
-
-enters-requires : tie.Need-enters-requires
-enters-requires c κs = search needs
-
-opens-requires : tie.Need-opens-requires
-opens-requires c κs = search needs
-
 returns : tie.Need-returns
 unfolding entersNextAt entersNextIf
 returns c =
@@ -35,10 +20,10 @@ pub enters-next-at-spec : {M : Type 1} → statement M
 enters-next-at-spec =
     tie.close
     (tie.spec
-    meets-requires
-    add-round
-    takes-requires
-    enters-requires
-    opens-requires
+    (λ c κs. search needs)
+    (λ c. search needs)
+    (λ c κs. search needs)
+    (λ c κs. search needs)
+    (λ c κs. search needs)
     returns
     returns-2)

@@ -4,12 +4,9 @@ use Rattle.rules.specs.Events.{changed, joinsEstimates}
 use Rattle.rules.proofs.process.Next.joins.Statement.{statement}
 use Rattle.rules.proofs.process.Next.joins.Tie as tie
 
-joined-requires : tie.Need-joined-requires
-joined-requires c κs = search needs
-
 returns : tie.Need-returns
 unfolding changed joinsEstimates
 returns c = rw (c .before .joined .ensures)
 
 pub joins-spec : {M : Type 1} → statement M
-joins-spec = tie.close (tie.spec joined-requires returns)
+joins-spec = tie.close (tie.spec (λ c κs. search needs) returns)

@@ -6,9 +6,6 @@ use Rattle.rules.specs.Idle.{idleE, at}
 use Rattle.rules.proofs.process.Process.idle_e.Statement.{statement}
 use Rattle.rules.proofs.process.Process.idle_e.Tie as tie
 
-past-for-requires : tie.Need-past-for-requires
-past-for-requires c κs = search needs
-
 returns : tie.Need-returns
 unfolding idleE at
 returns c = rw (sym (c .before .past-for .ensures) ∙ c .if1 .taken)
@@ -34,9 +31,6 @@ returns-4 c =
     let e1 = e2 .before .before in
     rw (sym (e1 .before .past-for .ensures) ∙ e1 .if1 .left, eq-eqb _ _ (e2 .if2 .left), ne-eqb _ _ (e3 .if3 .left), ne-eqb _ _ (c .if4 .taken))
 
-holds-requires : tie.Need-holds-requires
-holds-requires c κs = search needs
-
 returns-5 : tie.Need-returns-5
 unfolding idleE at
 returns-5 c =
@@ -49,4 +43,4 @@ returns-5 c =
 pub idle-e-spec : {M : Type 1} → statement M
 idle-e-spec =
     tie.close
-    (tie.spec past-for-requires returns returns-2 returns-3 returns-4 holds-requires returns-5)
+    (tie.spec (λ c κs. search needs) returns returns-2 returns-3 returns-4 (λ c κs. search needs) returns-5)

@@ -6,9 +6,6 @@ use Rattle.rules.specs.Idle.{idleF, at}
 use Rattle.rules.proofs.process.Process.idle_f.Statement.{statement}
 use Rattle.rules.proofs.process.Process.idle_f.Tie as tie
 
-past-for-requires : tie.Need-past-for-requires
-past-for-requires c κs = search needs
-
 returns : tie.Need-returns
 unfolding idleF at
 returns c = rw (sym (c .before .past-for .ensures) ∙ c .if1 .taken)
@@ -26,9 +23,6 @@ returns-3 c =
     let e1 = e2 .before .before in
     rw (sym (e1 .before .past-for .ensures) ∙ e1 .if1 .left, eq-eqb _ _ (e2 .if2 .left), ne-eqb _ _ (c .if3 .taken))
 
-holds-requires : tie.Need-holds-requires
-holds-requires c κs = search needs
-
 returns-4 : tie.Need-returns-4
 unfolding idleF at
 returns-4 c =
@@ -39,4 +33,4 @@ returns-4 c =
 
 pub idle-f-spec : {M : Type 1} → statement M
 idle-f-spec =
-    tie.close (tie.spec past-for-requires returns returns-2 returns-3 holds-requires returns-4)
+    tie.close (tie.spec (λ c κs. search needs) returns returns-2 returns-3 (λ c κs. search needs) returns-4)

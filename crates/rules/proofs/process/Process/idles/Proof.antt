@@ -5,9 +5,6 @@ use borrow.Author.Needs.{needs}
 use Rattle.rules.proofs.process.Process.idles.Statement.{statement}
 use Rattle.rules.proofs.process.Process.idles.Tie as tie
 
-on-crash-requires : tie.Need-on-crash-requires
-on-crash-requires c κs = search needs
-
 returns : tie.Need-returns
 unfolding idles lifted
 returns c = rw (c .before .if1 .taken, c .on-crash .ensures)
@@ -17,4 +14,4 @@ unfolding idles lifted
 returns-2 c = rw (c .if1 .left)
 
 pub idles-spec : {M : Type 1} → statement M
-idles-spec = tie.close (tie.spec on-crash-requires returns returns-2)
+idles-spec = tie.close (tie.spec (λ c κs. search needs) returns returns-2)

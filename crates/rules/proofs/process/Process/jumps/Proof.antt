@@ -5,12 +5,6 @@ use Rattle.rules.specs.Events.{jumps, jumpsIf}
 use Rattle.rules.proofs.process.Process.jumps.Statement.{statement}
 use Rattle.rules.proofs.process.Process.jumps.Tie as tie
 
-enters-requires : tie.Need-enters-requires
-enters-requires c κs = search needs
-
-takes-requires : tie.Need-takes-requires
-takes-requires c κs = search needs
-
 returns : tie.Need-returns
 unfolding jumps jumpsIf
 returns c = rw (lt-ltb _ _ (c .before .before .if1 .taken), c .takes .ensures, c .before .enters .ensures)
@@ -20,4 +14,4 @@ unfolding jumps jumpsIf
 returns-2 c = rw (le-ltb _ _ (c .if1 .left))
 
 pub jumps-spec : {M : Type 1} → statement M
-jumps-spec = tie.close (tie.spec enters-requires takes-requires returns returns-2)
+jumps-spec = tie.close (tie.spec (λ c κs. search needs) (λ c κs. search needs) returns returns-2)

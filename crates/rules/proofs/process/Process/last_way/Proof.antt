@@ -10,9 +10,6 @@ use borrow.Author.Needs.{needs}
 use Rattle.rules.proofs.process.Process.last_way.Statement.{statement}
 use Rattle.rules.proofs.process.Process.last_way.Tie as tie
 
-enum-known-step : tie.Need-enum-known-step
-enum-known-step c = search needs
-
 cast-way-e : tie.Need-cast-way-e
 cast-way-e c = omega (arith, numbers-E _ _ _ _ _ (c .before .before .before .pre .0 .high) (c .before .before .before .pre .0 .numbers) (c .before .step .given .1))
 
@@ -23,9 +20,6 @@ way-e-requires : tie.Need-way-e-requires
 unfolding delivers
 way-e-requires c κs = omega (arith, numbers-E _ _ _ _ _ (c .before .before .before .pre .0 .high) (c .before .before .before .pre .0 .numbers) (c .before .step .given .1), c .before .before .before .pre .1 (ap delivers (c .before .step .given .1)), c .before .before .before .pre .0 .low, c .before .before .before .pre .0 .round)
 
-enum-known-step-2 : tie.Need-enum-known-step-2
-enum-known-step-2 c = search needs
-
 cast-way-s : tie.Need-cast-way-s
 cast-way-s c = omega (arith, numbers-S _ _ _ _ _ (c .before .before .before .pre .0 .high) (c .before .before .before .pre .0 .numbers) (c .before .step2 .given .1))
 
@@ -34,9 +28,6 @@ cast-way-s-2 c = omega (arith, numbers-S _ _ _ _ _ (c .before .before .before .p
 
 way-s-requires : tie.Need-way-s-requires
 way-s-requires c κs = omega (arith, numbers-S _ _ _ _ _ (c .before .before .before .pre .0 .high) (c .before .before .before .pre .0 .numbers) (c .before .step2 .given .1))
-
-enum-known-step-3 : tie.Need-enum-known-step-3
-enum-known-step-3 c = search needs
 
 cast-way-f : tie.Need-cast-way-f
 cast-way-f c = omega (arith, numbers-F _ _ _ _ _ (c .before .before .before .pre .0 .high) (c .before .before .before .pre .0 .numbers) (c .before .step3 .given .1))
@@ -48,35 +39,8 @@ way-f-requires : tie.Need-way-f-requires
 unfolding delivers
 way-f-requires c κs = omega (arith, numbers-F _ _ _ _ _ (c .before .before .before .pre .0 .high) (c .before .before .before .pre .0 .numbers) (c .before .step3 .given .1), c .before .before .before .pre .1 (ap delivers (c .before .step3 .given .1)), c .before .before .before .pre .0 .low, c .before .before .before .pre .0 .round)
 
-enum-known-step-4 : tie.Need-enum-known-step-4
-enum-known-step-4 c = search needs
-
-way-decision-requires : tie.Need-way-decision-requires
-way-decision-requires c κs = search needs
-
-enum-known-step-5 : tie.Need-enum-known-step-5
-enum-known-step-5 c = search needs
-
-way-suspect-requires : tie.Need-way-suspect-requires
-way-suspect-requires c κs = search needs
-
 enum-told : tie.Need-enum-told
 enum-told c = search needs
-
-on-pause-requires : tie.Need-on-pause-requires
-on-pause-requires c κs = search needs
-
-enum-told-2 : tie.Need-enum-told-2
-enum-told-2 c = search needs
-
-on-crash-requires : tie.Need-on-crash-requires
-on-crash-requires c κs = search needs
-
-enum-told-3 : tie.Need-enum-told-3
-enum-told-3 c = search needs
-
-way-recover-requires : tie.Need-way-recover-requires
-way-recover-requires c κs = search needs
 
 returns : tie.Need-returns
 unfolding lastCourse lifts
@@ -114,28 +78,28 @@ pub last-way-spec : {M : Type 1} → statement M
 last-way-spec =
     tie.close
     (tie.spec
-    enum-known-step
+    (λ c. search needs)
     cast-way-e
     cast-way-e-2
     way-e-requires
-    enum-known-step-2
+    (λ c. search needs)
     cast-way-s
     cast-way-s-2
     way-s-requires
-    enum-known-step-3
+    (λ c. search needs)
     cast-way-f
     cast-way-f-2
     way-f-requires
-    enum-known-step-4
-    way-decision-requires
-    enum-known-step-5
-    way-suspect-requires
+    (λ c. search needs)
+    (λ c κs. search needs)
+    (λ c. search needs)
+    (λ c κs. search needs)
     enum-told
-    on-pause-requires
-    enum-told-2
-    on-crash-requires
-    enum-told-3
-    way-recover-requires
+    (λ c κs. search needs)
+    (λ c. search needs)
+    (λ c κs. search needs)
+    (λ c. search needs)
+    (λ c κs. search needs)
     returns
     returns-2
     returns-3

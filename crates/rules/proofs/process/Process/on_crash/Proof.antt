@@ -4,12 +4,9 @@ use Rattle.rules.specs.Events.{onCrash, crashed}
 use Rattle.rules.proofs.process.Process.on_crash.Statement.{statement}
 use Rattle.rules.proofs.process.Process.on_crash.Tie as tie
 
-quiet-requires : tie.Need-quiet-requires
-quiet-requires c κs = search needs
-
 returns : tie.Need-returns
 unfolding onCrash crashed
 returns c = c .quiet .ensures
 
 pub on-crash-spec : {M : Type 1} → statement M
-on-crash-spec = tie.close (tie.spec quiet-requires returns)
+on-crash-spec = tie.close (tie.spec (λ c κs. search needs) returns)

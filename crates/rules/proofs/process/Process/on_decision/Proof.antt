@@ -4,12 +4,9 @@ use Rattle.rules.specs.Events.{onDecision}
 use Rattle.rules.proofs.process.Process.on_decision.Statement.{statement}
 use Rattle.rules.proofs.process.Process.on_decision.Tie as tie
 
-decides-requires : tie.Need-decides-requires
-decides-requires c κs = search needs
-
 returns : tie.Need-returns
 unfolding onDecision
 returns c = rw (c .decides .ensures)
 
 pub on-decision-spec : {M : Type 1} → statement M
-on-decision-spec = tie.close (tie.spec decides-requires returns)
+on-decision-spec = tie.close (tie.spec (λ c κs. search needs) returns)

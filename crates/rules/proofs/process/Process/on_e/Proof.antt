@@ -4,22 +4,10 @@ use Rattle.rules.proofs.ProcessLaws.{stages-E}
 use Rattle.rules.proofs.process.Process.on_e.Statement.{statement}
 use Rattle.rules.proofs.process.Process.on_e.Tie as tie
 
-jumps-requires : tie.Need-jumps-requires
-jumps-requires c κs = search needs
-
-relays-requires : tie.Need-relays-requires
-relays-requires c κs = search needs
-
-joins-requires : tie.Need-joins-requires
-joins-requires c κs = search needs
-
-decides-at-requires : tie.Need-decides-at-requires
-decides-at-requires c κs = search needs
-
 returns : tie.Need-returns
 returns c =
     stages-E _ _ _ _ _ _ _ (c .before .before .before .jumps .ensures) (c .before .before .relays .ensures) (c .before .joins .ensures) (c .decides-at .ensures)
 
 pub on-e-spec : {M : Type 1} → statement M
 on-e-spec =
-    tie.close (tie.spec jumps-requires relays-requires joins-requires decides-at-requires returns)
+    tie.close (tie.spec (λ c κs. search needs) (λ c κs. search needs) (λ c κs. search needs) (λ c κs. search needs) returns)

@@ -5,18 +5,6 @@ use Rattle.rules.proofs.ProcessLaws.{f-round, joined-F, stages-F}
 use Rattle.rules.proofs.process.Process.on_f.Statement.{statement}
 use Rattle.rules.proofs.process.Process.on_f.Tie as tie
 
-jumps-requires : tie.Need-jumps-requires
-jumps-requires c κs = search needs
-
-to-phase-2-requires : tie.Need-to-phase-2-requires
-to-phase-2-requires c κs = search needs
-
-adopts-requires : tie.Need-adopts-requires
-adopts-requires c κs = search needs
-
-joins-requires : tie.Need-joins-requires
-joins-requires c κs = search needs
-
 enters-next-at-requires : tie.Need-enters-next-at-requires
 enters-next-at-requires c κs =
     let a = c .before .before .before .before .args in
@@ -33,9 +21,9 @@ pub on-f-spec : {M : Type 1} → statement M
 on-f-spec =
     tie.close
     (tie.spec
-    jumps-requires
-    to-phase-2-requires
-    adopts-requires
-    joins-requires
+    (λ c κs. search needs)
+    (λ c κs. search needs)
+    (λ c κs. search needs)
+    (λ c κs. search needs)
     enters-next-at-requires
     returns)

@@ -4,12 +4,9 @@ use Rattle.rules.specs.Events.{onPause, paused}
 use Rattle.rules.proofs.process.Process.on_pause.Statement.{statement}
 use Rattle.rules.proofs.process.Process.on_pause.Tie as tie
 
-quiet-requires : tie.Need-quiet-requires
-quiet-requires c κs = search needs
-
 returns : tie.Need-returns
 unfolding onPause paused
 returns c = c .quiet .ensures
 
 pub on-pause-spec : {M : Type 1} → statement M
-on-pause-spec = tie.close (tie.spec quiet-requires returns)
+on-pause-spec = tie.close (tie.spec (λ c κs. search needs) returns)

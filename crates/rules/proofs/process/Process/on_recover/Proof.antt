@@ -8,12 +8,9 @@ use Rattle.rules.proofs.process.Process.on_recover.Tie as tie
 add-recovered : tie.Need-add-recovered
 add-recovered c = omega arith
 
-quiet-requires : tie.Need-quiet-requires
-quiet-requires c κs = search needs
-
 returns : tie.Need-returns
 unfolding onRecover recovered
 returns c = c .quiet .ensures
 
 pub on-recover-spec : {M : Type 1} → statement M
-on-recover-spec = tie.close (tie.spec add-recovered quiet-requires returns)
+on-recover-spec = tie.close (tie.spec add-recovered (λ c κs. search needs) returns)

@@ -5,18 +5,6 @@ use Rattle.rules.specs.Events.{onS, joinsSuspicions, goesToPhase2If}
 use Rattle.rules.proofs.process.Process.on_s.Statement.{statement}
 use Rattle.rules.proofs.process.Process.on_s.Tie as tie
 
-joined-requires : tie.Need-joined-requires
-joined-requires c κs = search needs
-
-meets-requires : tie.Need-meets-requires
-meets-requires c κs = search needs
-
-goes-to-phase-2-requires : tie.Need-goes-to-phase-2-requires
-goes-to-phase-2-requires c κs = search needs
-
-quiet-requires : tie.Need-quiet-requires
-quiet-requires c κs = search needs
-
 returns : tie.Need-returns
 unfolding onS joinsSuspicions goesToPhase2If
 returns c =
@@ -33,9 +21,9 @@ pub on-s-spec : {M : Type 1} → statement M
 on-s-spec =
     tie.close
     (tie.spec
-    joined-requires
-    meets-requires
-    goes-to-phase-2-requires
-    quiet-requires
+    (λ c κs. search needs)
+    (λ c κs. search needs)
+    (λ c κs. search needs)
+    (λ c κs. search needs)
     returns
     returns-2)

@@ -5,27 +5,15 @@ use Rattle.rules.specs.Events.{relays, relaysIf}
 use Rattle.rules.proofs.process.Process.relays.Statement.{statement}
 use Rattle.rules.proofs.process.Process.relays.Tie as tie
 
-quiet-requires : tie.Need-quiet-requires
-quiet-requires c κs = search needs
-
 returns : tie.Need-returns
 unfolding relays relaysIf
 returns c = rw (ne-eqb _ _ (c .before .if1 .taken)) (c .quiet .ensures)
-
-coordinator-requires : tie.Need-coordinator-requires
-coordinator-requires c κs = search needs
-
-quiet-requires-2 : tie.Need-quiet-requires-2
-quiet-requires-2 c κs = search needs
 
 returns-2 : tie.Need-returns-2
 unfolding relays relaysIf
 returns-2 c =
     let d = c .before .before in
     rw (eq-eqb _ _ (d .before .if1 .left), ← (d .coordinator .ensures), eq-eqb _ _ (c .before .if2 .taken)) (c .quiet2 .ensures)
-
-takes-requires : tie.Need-takes-requires
-takes-requires c κs = search needs
 
 returns-3 : tie.Need-returns-3
 unfolding relays relaysIf
@@ -37,10 +25,10 @@ pub relays-spec : {M : Type 1} → statement M
 relays-spec =
     tie.close
     (tie.spec
-    quiet-requires
+    (λ c κs. search needs)
     returns
-    coordinator-requires
-    quiet-requires-2
+    (λ c κs. search needs)
+    (λ c κs. search needs)
     returns-2
-    takes-requires
+    (λ c κs. search needs)
     returns-3)

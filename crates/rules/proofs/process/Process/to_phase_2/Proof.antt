@@ -5,12 +5,6 @@ use Rattle.rules.specs.Events.{toPhase2, goesToPhase2If}
 use Rattle.rules.proofs.process.Process.to_phase_2.Statement.{statement}
 use Rattle.rules.proofs.process.Process.to_phase_2.Tie as tie
 
-goes-to-phase-2-requires : tie.Need-goes-to-phase-2-requires
-goes-to-phase-2-requires c κs = search needs
-
-quiet-requires : tie.Need-quiet-requires
-quiet-requires c κs = search needs
-
 returns : tie.Need-returns
 unfolding toPhase2 goesToPhase2If
 returns c = rw (eq-eqb _ _ (c .before .if1 .taken)) (c .goes-to-phase-2 .ensures)
@@ -20,4 +14,4 @@ unfolding toPhase2 goesToPhase2If
 returns-2 c = rw (ne-eqb _ _ (c .before .if1 .left)) (c .quiet .ensures)
 
 pub to-phase-2-spec : {M : Type 1} → statement M
-to-phase-2-spec = tie.close (tie.spec goes-to-phase-2-requires quiet-requires returns returns-2)
+to-phase-2-spec = tie.close (tie.spec (λ c κs. search needs) (λ c κs. search needs) returns returns-2)

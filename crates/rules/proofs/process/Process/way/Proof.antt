@@ -34,15 +34,9 @@ module _ (n i e k : ℕ) (p : Process) (s : Step) where
 told : (n : ℕ) (up : Bool) (e k : ℕ) {d d' b b' : Bool} → d ≡ d' → b ≡ b' → heldRows n up e k d b ≡ heldRows n up e k d' b'
 told n up e k x y = ap₂ (heldRows n up e k) x y
 
-held-refusal-requires : tie.Need-held-refusal-requires
-held-refusal-requires c κs = search needs
-
 returns : tie.Need-returns
 unfolding lifted
 returns c = ap (lifted _) (refused _ _ _ _ _ _ (sym (c .before .held-refusal .ensures ∙ told _ _ _ _ (c .before .before .pre .1) (c .before .before .pre .2))) (c .if1 .taken))
-
-add-last-way : tie.Need-add-last-way
-add-last-way c = search needs
 
 last-way-requires : tie.Need-last-way-requires
 last-way-requires c κs =
@@ -53,4 +47,4 @@ returns-2 : tie.Need-returns-2
 returns-2 c = c .last-way .ensures ∙ ap (lifted _) (passed _ _ _ _ _ _ (sym (c .before .before .held-refusal .ensures ∙ told _ _ _ _ (c .before .before .before .pre .1) (c .before .before .before .pre .2)) ∙ c .before .if1 .left))
 
 pub way-spec : {M : Type 1} → statement M
-way-spec = tie.close (tie.spec held-refusal-requires returns add-last-way last-way-requires returns-2)
+way-spec = tie.close (tie.spec (λ c κs. search needs) returns (λ c. search needs) last-way-requires returns-2)

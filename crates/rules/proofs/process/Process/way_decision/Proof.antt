@@ -9,20 +9,8 @@ use borrow.Author.Needs.{needs}
 use Rattle.rules.proofs.process.Process.way_decision.Statement.{statement}
 use Rattle.rules.proofs.process.Process.way_decision.Tie as tie
 
-idles-requires : tie.Need-idles-requires
-idles-requires c κs = search needs
-
 returns : tie.Need-returns
 returns c = c .idles .ensures ∙ way-idle _ _ _ _ _ (c .before .if1 .taken)
-
-value-of-requires : tie.Need-value-of-requires
-value-of-requires c κs = search needs
-
-on-decision-requires : tie.Need-on-decision-requires
-on-decision-requires c κs = search needs
-
-cut-if-requires : tie.Need-cut-if-requires
-cut-if-requires c κs = search needs
 
 returns-2 : tie.Need-returns-2
 returns-2 c =
@@ -34,9 +22,9 @@ pub way-decision-spec : {M : Type 1} → statement M
 way-decision-spec =
     tie.close
     (tie.spec
-    idles-requires
+    (λ c κs. search needs)
     returns
-    value-of-requires
-    on-decision-requires
-    cut-if-requires
+    (λ c κs. search needs)
+    (λ c κs. search needs)
+    (λ c κs. search needs)
     returns-2)

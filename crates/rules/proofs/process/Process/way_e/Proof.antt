@@ -9,26 +9,8 @@ use borrow.Author.Needs.{needs}
 use Rattle.rules.proofs.process.Process.way_e.Statement.{statement}
 use Rattle.rules.proofs.process.Process.way_e.Tie as tie
 
-idle-e-requires : tie.Need-idle-e-requires
-idle-e-requires c κs = search needs
-
-idles-requires : tie.Need-idles-requires
-idles-requires c κs = search needs
-
 returns : tie.Need-returns
 returns c = c .idles .ensures ∙ way-idle _ _ _ _ _ (sym (c .before .before .idle-e .ensures) ∙ c .before .if1 .taken)
-
-proposer-of-requires : tie.Need-proposer-of-requires
-proposer-of-requires c κs = search needs
-
-value-of-requires : tie.Need-value-of-requires
-value-of-requires c κs = search needs
-
-on-e-requires : tie.Need-on-e-requires
-on-e-requires c κs = search needs
-
-cut-if-requires : tie.Need-cut-if-requires
-cut-if-requires c κs = search needs
 
 returns-2 : tie.Need-returns-2
 returns-2 c =
@@ -40,11 +22,11 @@ pub way-e-spec : {M : Type 1} → statement M
 way-e-spec =
     tie.close
     (tie.spec
-    idle-e-requires
-    idles-requires
+    (λ c κs. search needs)
+    (λ c κs. search needs)
     returns
-    proposer-of-requires
-    value-of-requires
-    on-e-requires
-    cut-if-requires
+    (λ c κs. search needs)
+    (λ c κs. search needs)
+    (λ c κs. search needs)
+    (λ c κs. search needs)
     returns-2)

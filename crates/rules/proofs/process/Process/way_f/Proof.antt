@@ -12,32 +12,14 @@ use borrow.Author.Needs.{needs}
 use Rattle.rules.proofs.process.Process.way_f.Statement.{statement}
 use Rattle.rules.proofs.process.Process.way_f.Tie as tie
 
-idle-f-requires : tie.Need-idle-f-requires
-idle-f-requires c κs = search needs
-
-idles-requires : tie.Need-idles-requires
-idles-requires c κs = search needs
-
 returns : tie.Need-returns
 returns c = c .idles .ensures ∙ past-idle _ _ _ _ _ (sym (c .before .before .idle-f .ensures) ∙ c .before .if1 .taken)
-
-proposer-of-requires : tie.Need-proposer-of-requires
-proposer-of-requires c κs = search needs
-
-value-of-requires : tie.Need-value-of-requires
-value-of-requires c κs = search needs
-
-on-f-requires : tie.Need-on-f-requires
-on-f-requires c κs = search needs
 
 returns-2 : tie.Need-returns-2
 returns-2 c =
     let a = c .before .before .before .before .before .before .before .args in
     let e = c .before .before .on-f .ensures ∙ ap₂ (λ (q v : ℕ). onF (a .n) (a .i) (a .sender) (a .round) q v (a .self)) (c .before .before .before .before .proposer-of .ensures) (c .before .before .before .value-of .ensures) in
     past-yes _ _ _ _ _ (sym (c .before .before .before .before .before .before .idle-f .ensures) ∙ c .before .before .before .before .before .if1 .left) (ap (λ (x : Next). ltb lastRound (x .process .round)) (sym e) ∙ lt-ltb _ _ (c .if2 .taken))
-
-cut-if-requires : tie.Need-cut-if-requires
-cut-if-requires c κs = search needs
 
 returns-3 : tie.Need-returns-3
 returns-3 c =
@@ -49,12 +31,12 @@ pub way-f-spec : {M : Type 1} → statement M
 way-f-spec =
     tie.close
     (tie.spec
-    idle-f-requires
-    idles-requires
+    (λ c κs. search needs)
+    (λ c κs. search needs)
     returns
-    proposer-of-requires
-    value-of-requires
-    on-f-requires
+    (λ c κs. search needs)
+    (λ c κs. search needs)
+    (λ c κs. search needs)
     returns-2
-    cut-if-requires
+    (λ c κs. search needs)
     returns-3)

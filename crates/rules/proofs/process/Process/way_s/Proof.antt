@@ -8,20 +8,8 @@ use borrow.Author.Needs.{needs}
 use Rattle.rules.proofs.process.Process.way_s.Statement.{statement}
 use Rattle.rules.proofs.process.Process.way_s.Tie as tie
 
-idle-s-requires : tie.Need-idle-s-requires
-idle-s-requires c κs = search needs
-
-idles-requires : tie.Need-idles-requires
-idles-requires c κs = search needs
-
 returns : tie.Need-returns
 returns c = c .idles .ensures ∙ way-idle _ _ _ _ _ (sym (c .before .before .idle-s .ensures) ∙ c .before .if1 .taken)
-
-on-s-requires : tie.Need-on-s-requires
-on-s-requires c κs = search needs
-
-cut-if-requires : tie.Need-cut-if-requires
-cut-if-requires c κs = search needs
 
 returns-2 : tie.Need-returns-2
 returns-2 c =
@@ -31,4 +19,4 @@ returns-2 c =
 pub way-s-spec : {M : Type 1} → statement M
 way-s-spec =
     tie.close
-    (tie.spec idle-s-requires idles-requires returns on-s-requires cut-if-requires returns-2)
+    (tie.spec (λ c κs. search needs) (λ c κs. search needs) returns (λ c κs. search needs) (λ c κs. search needs) returns-2)

@@ -8,15 +8,6 @@ use borrow.Author.Needs.{needs}
 use Rattle.rules.proofs.process.Process.way_suspect.Statement.{statement}
 use Rattle.rules.proofs.process.Process.way_suspect.Tie as tie
 
-may-suspect-requires : tie.Need-may-suspect-requires
-may-suspect-requires c κs = search needs
-
-on-suspect-requires : tie.Need-on-suspect-requires
-on-suspect-requires c κs = search needs
-
-cut-if-requires : tie.Need-cut-if-requires
-cut-if-requires c κs = search needs
-
 returns : tie.Need-returns
 unfolding lifted
 returns c =
@@ -29,4 +20,4 @@ returns-2 c = ap (lifted 0) (possible-no _ _ _ (sym (c .before .may-suspect .ens
 
 pub way-suspect-spec : {M : Type 1} → statement M
 way-suspect-spec =
-    tie.close (tie.spec may-suspect-requires on-suspect-requires cut-if-requires returns returns-2)
+    tie.close (tie.spec (λ c κs. search needs) (λ c κs. search needs) (λ c κs. search needs) returns returns-2)

@@ -6,54 +6,6 @@ use borrow.Author.Needs.{needs}
 use Rattle.rules.proofs.step.Step.address.Statement.{statement}
 use Rattle.rules.proofs.step.Step.address.Tie as tie
 
-enum-known-self : tie.Need-enum-known-self
-enum-known-self c = search needs
-
-message-address-requires : tie.Need-message-address-requires
-message-address-requires c κs = search needs
-
-enum-known-self-2 : tie.Need-enum-known-self-2
-enum-known-self-2 c = search needs
-
-message-address-requires-2 : tie.Need-message-address-requires-2
-message-address-requires-2 c κs = search needs
-
-enum-known-self-3 : tie.Need-enum-known-self-3
-enum-known-self-3 c = search needs
-
-message-address-requires-3 : tie.Need-message-address-requires-3
-message-address-requires-3 c κs = search needs
-
-enum-known-self-4 : tie.Need-enum-known-self-4
-enum-known-self-4 c = search needs
-
-decision-address-requires : tie.Need-decision-address-requires
-decision-address-requires c κs = search needs
-
-enum-known-self-5 : tie.Need-enum-known-self-5
-enum-known-self-5 c = search needs
-
-own-address-requires : tie.Need-own-address-requires
-own-address-requires c κs = search needs
-
-enum-known-self-6 : tie.Need-enum-known-self-6
-enum-known-self-6 c = search needs
-
-own-address-requires-2 : tie.Need-own-address-requires-2
-own-address-requires-2 c κs = search needs
-
-enum-known-self-7 : tie.Need-enum-known-self-7
-enum-known-self-7 c = search needs
-
-own-address-requires-3 : tie.Need-own-address-requires-3
-own-address-requires-3 c κs = search needs
-
-enum-known-self-8 : tie.Need-enum-known-self-8
-enum-known-self-8 c = search needs
-
-own-address-requires-4 : tie.Need-own-address-requires-4
-own-address-requires-4 c κs = search needs
-
 returns : tie.Need-returns
 unfolding addressOf numberRows numbersOf every late roundOf row takerOf slotOf delivers isRecover
 returns c = rw (c .before .before .self .given .1) (c .message-address .ensures)
@@ -90,22 +42,22 @@ pub address-spec : {M : Type 1} → statement M
 address-spec =
     tie.close
     (tie.spec
-    enum-known-self
-    message-address-requires
-    enum-known-self-2
-    message-address-requires-2
-    enum-known-self-3
-    message-address-requires-3
-    enum-known-self-4
-    decision-address-requires
-    enum-known-self-5
-    own-address-requires
-    enum-known-self-6
-    own-address-requires-2
-    enum-known-self-7
-    own-address-requires-3
-    enum-known-self-8
-    own-address-requires-4
+    (λ c. search needs)
+    (λ c κs. search needs)
+    (λ c. search needs)
+    (λ c κs. search needs)
+    (λ c. search needs)
+    (λ c κs. search needs)
+    (λ c. search needs)
+    (λ c κs. search needs)
+    (λ c. search needs)
+    (λ c κs. search needs)
+    (λ c. search needs)
+    (λ c κs. search needs)
+    (λ c. search needs)
+    (λ c κs. search needs)
+    (λ c. search needs)
+    (λ c κs. search needs)
     returns
     returns-2
     returns-3

@@ -6,14 +6,8 @@ use borrow.Author.Needs.{needs}
 use Rattle.rules.proofs.store.Store.hand_over.Statement.{statement}
 use Rattle.rules.proofs.store.Store.hand_over.Tie as tie
 
-spot-requires : tie.Need-spot-requires
-spot-requires c κs = search needs
-
 enum-told : tie.Need-enum-told
 enum-told c = search needs
-
-enum-known-spot : tie.Need-enum-known-spot
-enum-known-spot c = search needs
 
 write-requires : tie.Need-write-requires
 write-requires c κs =
@@ -23,12 +17,6 @@ write-requires c κs =
 returns : tie.Need-returns
 returns c = hands-nothing _ _ _ _ _ (sym (c .before .before .spot .ensures) ∙ c .enum-told .given .1)
 
-same-length : tie.Need-same-length
-same-length c = search needs
-
-same-length-2 : tie.Need-same-length-2
-same-length-2 c = search needs
-
 returns-2 : tie.Need-returns-2
 returns-2 c = hands-spot _ _ _ _ _ (sym (c .before .before .before .before .before .before .before .before .before .before .spot .ensures) ∙ c .before .before .before .before .before .before .before .before .spot2 .given .1) (c .before .before .before .before .write .ensures)
 
@@ -36,11 +24,11 @@ pub hand-over-spec : {M : Type 1} → statement M
 hand-over-spec =
     tie.close
     (tie.spec
-    spot-requires
+    (λ c κs. search needs)
     enum-told
-    enum-known-spot
+    (λ c. search needs)
     write-requires
     returns
-    same-length
-    same-length-2
+    (λ c. search needs)
+    (λ c. search needs)
     returns-2)

@@ -10,42 +10,6 @@ use Rattle.rules.proofs.store.Store.spot.Tie as tie
 enum-told : tie.Need-enum-told
 enum-told c = search needs
 
-enum-known-message : tie.Need-enum-known-message
-enum-known-message c = search needs
-
-slot-requires : tie.Need-slot-requires
-slot-requires c κs = search needs
-
-entry-of-requires : tie.Need-entry-of-requires
-entry-of-requires c κs = search needs
-
-enum-known-message-2 : tie.Need-enum-known-message-2
-enum-known-message-2 c = search needs
-
-slot-requires-2 : tie.Need-slot-requires-2
-slot-requires-2 c κs = search needs
-
-entry-of-requires-2 : tie.Need-entry-of-requires-2
-entry-of-requires-2 c κs = search needs
-
-enum-known-message-3 : tie.Need-enum-known-message-3
-enum-known-message-3 c = search needs
-
-slot-requires-3 : tie.Need-slot-requires-3
-slot-requires-3 c κs = search needs
-
-entry-of-requires-3 : tie.Need-entry-of-requires-3
-entry-of-requires-3 c κs = search needs
-
-enum-known-message-4 : tie.Need-enum-known-message-4
-enum-known-message-4 c = search needs
-
-decision-slot-requires : tie.Need-decision-slot-requires
-decision-slot-requires c κs = search needs
-
-entry-of-requires-4 : tie.Need-entry-of-requires-4
-entry-of-requires-4 c κs = search needs
-
 returns : tie.Need-returns
 unfolding spotOf
 returns c = rw (c .enum-told .given .1)
@@ -71,18 +35,18 @@ spot-spec =
     tie.close
     (tie.spec
     enum-told
-    enum-known-message
-    slot-requires
-    entry-of-requires
-    enum-known-message-2
-    slot-requires-2
-    entry-of-requires-2
-    enum-known-message-3
-    slot-requires-3
-    entry-of-requires-3
-    enum-known-message-4
-    decision-slot-requires
-    entry-of-requires-4
+    (λ c. search needs)
+    (λ c κs. search needs)
+    (λ c κs. search needs)
+    (λ c. search needs)
+    (λ c κs. search needs)
+    (λ c κs. search needs)
+    (λ c. search needs)
+    (λ c κs. search needs)
+    (λ c κs. search needs)
+    (λ c. search needs)
+    (λ c κs. search needs)
+    (λ c κs. search needs)
     returns
     returns-2
     returns-3

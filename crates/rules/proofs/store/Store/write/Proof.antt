@@ -20,35 +20,8 @@ module _ (l d : List ℕ) (at k : ℕ) where
   unfolding datedIf
   first h = rw (eq-eqb (getD l at 0) 0 h)
 
-mul-old : tie.Need-mul-old
-mul-old c = search needs
-
-slice-read-old : tie.Need-slice-read-old
-slice-read-old c = search needs
-
-mul-store : tie.Need-mul-store
-mul-store c = search needs
-
-slice-write-store : tie.Need-slice-write-store
-slice-write-store c = search needs
-
-same-length : tie.Need-same-length
-same-length c = search needs
-
 returns : tie.Need-returns
 returns c = (refl, kept (c .before .before .args .store .now) (c .before .before .args .depths .now) (c .before .before .args .at) (c .before .before .args .depth) (c .if1 .taken), sym (ap bitOf (ne-eqb _ 0 (c .if1 .taken))))
-
-mul-depths : tie.Need-mul-depths
-mul-depths c = search needs
-
-slice-write-depths : tie.Need-slice-write-depths
-slice-write-depths c = search needs
-
-same-length-2 : tie.Need-same-length-2
-same-length-2 c = search needs
-
-same-length-3 : tie.Need-same-length-3
-same-length-3 c = search needs
 
 returns-2 : tie.Need-returns-2
 returns-2 c = (refl, first (c .before .before .args .store .now) (c .before .before .args .depths .now) (c .before .before .args .at) (c .before .before .args .depth) (c .if1 .left), sym (ap bitOf (eq-eqb _ 0 (c .if1 .left))))
@@ -57,14 +30,14 @@ pub write-spec : {M : Type 1} → statement M
 write-spec =
     tie.close
     (tie.spec
-    mul-old
-    slice-read-old
-    mul-store
-    slice-write-store
-    same-length
+    (λ c. search needs)
+    (λ c. search needs)
+    (λ c. search needs)
+    (λ c. search needs)
+    (λ c. search needs)
     returns
-    mul-depths
-    slice-write-depths
-    same-length-2
-    same-length-3
+    (λ c. search needs)
+    (λ c. search needs)
+    (λ c. search needs)
+    (λ c. search needs)
     returns-2)
