@@ -116,9 +116,13 @@ entersPast g l (Pause i) = false
 entersPast g l (Crash i) = false
 entersPast g l (Recover i) = false
 
--- "Order for start: 11, 1." And with the row of request 2026-06, "for start: 11, 14, 1": whether the second store is short is told
+-- "Order for start: 11, 1." And with the row of request 2026-06, "for start: 11, 14, 1", by their tests
+abbrev pub startRows : Bool → Bool → Bool → ℕ
+startRows shortStore shortDepths wrongCount = row shortStore 11 (row shortDepths 14 (row wrongCount 1 0))
+
+-- whether the second store is short is told
 unfoldable pub startRefusalBy : Bool → List ℕ → List ℕ → ℕ
-startRefusalBy shortDepths vs l = row (short l) 11 (row shortDepths 14 (row (miscounted vs) 1 0))
+startRefusalBy shortDepths vs l = startRows (short l) shortDepths (miscounted vs)
 
 -- without depths
 unfoldable pub startRefusal : List ℕ → List ℕ → ℕ

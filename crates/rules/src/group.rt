@@ -48,19 +48,21 @@ pub(crate) fn take_out(
     ensures { λ r. ⌜ ((n : ℕ) → r ≡ records.processAt (records.groupOf n (now (words .entry)) (now (halves .entry)) (now (bytes .entry)) (now (flags .entry))) i) ⌝ }
 {
     let at = (i - 1) as usize;
+    let second = Group::SECOND + at;
+    let third = Group::THIRD + at;
     Process {
         first: words[at],
         round: bytes[at],
-        phase: bytes[Group::SECOND + at],
-        proposer: bytes[Group::THIRD + at],
-        value: words[Group::SECOND + at],
+        phase: bytes[second],
+        proposer: bytes[third],
+        value: words[second],
         marked: flags[at],
-        decided: flags[Group::SECOND + at],
-        decision: words[Group::THIRD + at],
+        decided: flags[second],
+        decision: words[third],
         recoveries: bytes[Group::FOURTH + at],
-        up: flags[Group::THIRD + at],
+        up: flags[third],
         estimates: halves[at],
-        suspicions: halves[Group::SECOND + at],
+        suspicions: halves[second],
     }
 }
 
@@ -77,18 +79,20 @@ pub(crate) fn put_back(
     ensures { λ r. ⌜ ((n : ℕ) → records.groupOf n (now (words .exit)) (now (halves .exit)) (now (bytes .exit)) (now (flags .exit)) ≡ records.withProcess (records.groupOf n (now (words .entry)) (now (halves .entry)) (now (bytes .entry)) (now (flags .entry))) i p) ⌝ }
 {
     let at = (i - 1) as usize;
+    let second = Group::SECOND + at;
+    let third = Group::THIRD + at;
     words[at] = p.first;
-    words[Group::SECOND + at] = p.value;
-    words[Group::THIRD + at] = p.decision;
+    words[second] = p.value;
+    words[third] = p.decision;
     halves[at] = p.estimates;
-    halves[Group::SECOND + at] = p.suspicions;
+    halves[second] = p.suspicions;
     bytes[at] = p.round;
-    bytes[Group::SECOND + at] = p.phase;
-    bytes[Group::THIRD + at] = p.proposer;
+    bytes[second] = p.phase;
+    bytes[third] = p.proposer;
     bytes[Group::FOURTH + at] = p.recoveries;
     flags[at] = p.marked;
-    flags[Group::SECOND + at] = p.decided;
-    flags[Group::THIRD + at] = p.up;
+    flags[second] = p.decided;
+    flags[third] = p.up;
 }
 
 // The depth of process i.

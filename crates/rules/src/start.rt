@@ -2,10 +2,13 @@
 // A start is refused by 11, 14 or 1, and then leaves both stores as they were.
 ghost use mathlib.Core.Path.{_≡_};
 ghost use Prim.Native.Nat.{_≤_};
+ghost use mathlib.Core.Bool.{not};
+ghost use lib.Dec.{ltb};
 ghost use lib.ListN.{length};
 ghost use Rattle.rules.specs.Limits as limits;
 ghost use Rattle.rules.specs.Records as records;
 ghost use Rattle.rules.specs.Depths as deep;
+ghost use Rattle.rules.specs.Refusals as refusals;
 ghost use Rattle.rules.specs.Start as starts;
 use crate::group;
 use crate::group::Bytes;
@@ -18,6 +21,25 @@ use crate::process::Message;
 use crate::process::Process;
 use crate::step::Answer;
 use crate::store::Store;
+
+// Refusals 11, 14 and 1 of a start over stores of these lengths with n values, or 0.
+pub(crate) fn start_refusal(store: usize, depths: usize, n: usize) -> u8
+    ensures { λ r. ⌜ r ≡ refusals.startRows (ltb store limits.storeLength) (ltb depths limits.storeLength) (not (limits.among limits.greatestSize n)) ⌝ }
+{
+    if store < Store::LENGTH {
+        return 11;
+    }
+    if depths < Store::LENGTH {
+        return 14;
+    }
+    if n == 0 {
+        return 1;
+    }
+    if Group::GREATEST < n {
+        return 1;
+    }
+    0
+}
 
 // Starts the first processes of a group with the values, one record for each.
 pub(crate) fn fill(
@@ -62,29 +84,12 @@ impl Group {
     pub fn start(values: &[u32], store: &mut [u64], depths: &mut [u16]) -> Taken
         ensures { λ r. ⌜ deep.Starts (now (values .entry)) (now (store .entry)) (now (depths .entry)) r (now (store .exit)) (now (depths .exit)) ⌝ }
     {
-        if store.len() < Store::LENGTH {
-            return Taken {
-                group: Group::none(),
-                answer: Answer::Refused(11),
-            };
-        }
-        if depths.len() < Store::LENGTH {
-            return Taken {
-                group: Group::none(),
-                answer: Answer::Refused(14),
-            };
-        }
         let n = values.len();
-        if n == 0 {
+        let refusal = start_refusal(store.len(), depths.len(), n);
+        if refusal != 0 {
             return Taken {
                 group: Group::none(),
-                answer: Answer::Refused(1),
-            };
-        }
-        if Group::GREATEST < n {
-            return Taken {
-                group: Group::none(),
-                answer: Answer::Refused(1),
+                answer: Answer::Refused(refusal),
             };
         }
         let mut words = [0u32; 3 * Group::GREATEST];

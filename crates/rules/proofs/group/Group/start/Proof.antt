@@ -1,104 +1,95 @@
--- `Group::start` meets its contract: the three refusals in their order, then the records and both stores. Assumes nothing.
-use Rattle.rules.proofs.RowLaws.{among-in}
-use Rattle.rules.specs.Depths.{startRefusal, DeepOutcome, outcome, opened, unlessRefusedStart, started}
+-- `Group::start` meets its contract: the refusals, then the records and both stores. Assumes nothing.
+use Rattle.rules.proofs.RowLaws.{row-zero, among-true}
+use Rattle.rules.specs.Depths.{startRefusal, outcome, opened, unlessRefusedStart, started}
 use Rattle.rules.specs.Start.{begun}
-use Rattle.rules.specs.Refusals.{row, short, miscounted, startRefusalBy}
+use Rattle.rules.specs.Refusals.{short, miscounted, startRefusalBy}
 use Rattle.rules.specs.Answers.{said, saysApplied, saysRefused}
 use Rattle.rules.specs.Records.{blankGroup}
-use Rattle.rules.specs.Limits.{storeLength, among}
+use Rattle.rules.specs.Limits.{greatestSize, storeLength, among}
 use Rattle.rules.specs.declared.group.Group.{Group}
-use borrow.Author.Tests.{lt-ltb, le-ltb, lt-leb}
+use borrow.Author.Tests.{ltb-false, not-false}
 use lib.ListN.{length, getD}
-use lib.Dec.{leb}
 use native.Mathlib.Omega.{arith}
-use Prim.Native.Nat.{ℕ, _≤_, _<_}
+use Prim.Native.Nat.{ℕ, zero, suc, _≤_}
 use mathlib.Core.List.{List}
-use mathlib.Core.Bool.{Bool, true, false, _&&_, not, and-false}
-use mathlib.Core.Path.{_≡_, refl, ap, _∙_}
+use mathlib.Core.Bool.{false}
+use mathlib.Core.Path.{_≡_, refl, sym, ap, _∙_}
 use borrow.Author.Needs.{needs}
 use Rattle.rules.proofs.group.Group.start.Statement.{statement}
 use Rattle.rules.proofs.group.Group.start.Tie as tie
 
-module _ (vs : List ℕ) where
-  none-given : length vs ≡ 0 → miscounted vs ≡ true
-  unfolding miscounted among
-  none-given h = ap (λ (b : Bool). not (b && leb (length vs) 16)) (lt-leb 1 (length vs) (omega arith))
-
-  too-many : 16 < length vs → miscounted vs ≡ true
-  unfolding miscounted among
-  too-many h = ap not (ap (λ (b : Bool). leb 1 (length vs) && b) (lt-leb (length vs) 16 h) ∙ and-false (leb 1 (length vs)))
-
-  enough : ¬ (length vs ≡ 0) → length vs ≤ 16 → miscounted vs ≡ false
-  unfolding miscounted
-  enough h k = ap not (among-in 16 (length vs) (omega arith) k)
-
 module _ (vs l d : List ℕ) where
-  -- refused, over the group g of size 0
-  abbrev refused : Group → ℕ → DeepOutcome
-  refused g k = outcome g l d (saysRefused k)
+  refusing : {g : Group} {k : ℕ} → g ≡ blankGroup 0 → startRefusal vs l d ≡ k → ¬ (k ≡ 0) → outcome g l d (saysRefused k) ≡ started vs l d
+  unfolding started unlessRefusedStart
+  refusing {g} {k} e h z = ap (λ (x : Group). outcome x l d (saysRefused k)) e ∙ go k h z
+    where
+      go : (m : ℕ) → startRefusal vs l d ≡ m → ¬ (m ≡ 0) → outcome (blankGroup 0) l d (saysRefused m) ≡ started vs l d
+      go zero h z = absurd (z refl)
+      go (suc m) h z = rw h
 
-  too-short : {g : Group} → g ≡ blankGroup 0 → length l < storeLength → refused g 11 ≡ started vs l d
-  unfolding started unlessRefusedStart startRefusal startRefusalBy row short
-  too-short e h = ap (λ (g : Group). refused g 11) e ∙ rw (lt-ltb (length l) storeLength h)
+  starting : {g : Group} {last deeper : List ℕ} → startRefusal vs l d ≡ 0 → g ≡ begun vs l .group
+      → (last ≡ begun vs l .store) × (deeper ≡ opened (getD vs 0 0) l d) → outcome g last deeper (saysApplied 1 false) ≡ started vs l d
+  unfolding started unlessRefusedStart begun
+  starting z e h = (λ t. outcome (e t) (h .0 t) (h .1 t) (saysApplied 1 false)) ∙ rw z
 
-  module _ (long : storeLength ≤ length l) where
-    too-few : {g : Group} → g ≡ blankGroup 0 → length d < storeLength → refused g 14 ≡ started vs l d
-    unfolding started unlessRefusedStart startRefusal startRefusalBy row short
-    too-few e h = ap (λ (g : Group). refused g 14) e ∙ rw (le-ltb (length l) storeLength long, lt-ltb (length d) storeLength h)
+  -- what a start that is not refused knows
+  record Given : Type 0 where
+    long : storeLength ≤ length l
+    deep-long : storeLength ≤ length d
+    low : 1 ≤ length vs
+    high : length vs ≤ greatestSize
 
-    module _ (deep-long : storeLength ≤ length d) where
-      not-counted : {g : Group} → g ≡ blankGroup 0 → miscounted vs ≡ true → refused g 1 ≡ started vs l d
-      unfolding started unlessRefusedStart startRefusal startRefusalBy row short
-      not-counted e m =
-          ap (λ (g : Group). refused g 1) e ∙ rw (le-ltb (length l) storeLength long, le-ltb (length d) storeLength deep-long, m)
-
-      counted : {g : Group} {last deeper : List ℕ} → miscounted vs ≡ false → g ≡ begun vs l .group
-          → (last ≡ begun vs l .store) × (deeper ≡ opened (getD vs 0 0) l d) → outcome g last deeper (saysApplied 1 false) ≡ started vs l d
-      unfolding started unlessRefusedStart startRefusal startRefusalBy row short begun
-      counted m e h =
-          (λ t. outcome (e t) (h .0 t) (h .1 t) (saysApplied 1 false))
-          ∙ rw (le-ltb (length l) storeLength long, le-ltb (length d) storeLength deep-long, m)
+  given : startRefusal vs l d ≡ 0 → Given
+  unfolding startRefusal startRefusalBy short miscounted
+  given z =
+      let a = row-zero _ 10 _ z in
+      let b = row-zero _ 13 _ (a .1) in
+      let n = among-true greatestSize (length vs) (not-false _ (row-zero _ 0 _ (b .1) .0)) in
+      record { long = ltb-false (length l) storeLength (a .0); deep-long = ltb-false (length d) storeLength (b .0); low = n .0; high = n .1 }
 
 returns : tie.Need-returns
-unfolding said
-returns c = too-short _ _ _ (c .none .ensures) (c .before .if1 .taken)
-
-returns-2 : tie.Need-returns-2
-unfolding said
-returns-2 c = too-few _ _ _ (c .before .before .if1 .left) (c .none2 .ensures) (c .before .if2 .taken)
-
-returns-3 : tie.Need-returns-3
-unfolding said
-returns-3 c = not-counted _ _ _ (c .before .before .before .if1 .left) (c .before .before .if2 .left) (c .none3 .ensures) (none-given _ (c .before .if3 .taken))
-
-returns-4 : tie.Need-returns-4
-unfolding said
-returns-4 c = not-counted _ _ _ (c .before .before .before .before .if1 .left) (c .before .before .before .if2 .left) (c .none4 .ensures) (too-many _ (c .before .if4 .taken))
+unfolding said startRefusal startRefusalBy short miscounted
+returns c = refusing _ _ _ (c .none .ensures) (sym (c .before .before .start-refusal .ensures)) (c .before .if1 .taken)
 
 fill-requires : tie.Need-fill-requires
-unfolding blankGroup
-fill-requires c κs = (omega arith, refl)
+unfolding blankGroup startRefusal startRefusalBy short miscounted
+fill-requires c κs =
+    let a = c .before .before .before .before .before .before .before .before .before .args in
+    (given (a .values .now) (a .store .now) (a .depths .now) (sym (c .before .before .before .before .before .start-refusal .ensures) ∙ c .before .before .before .before .if1 .left) .high, refl)
 
-returns-5 : tie.Need-returns-5
-unfolding said begun
-returns-5 c = counted _ _ _ (c .before .before .before .before .before .before .before .before .before .before .before .before .before .before .before .before .if1 .left) (c .before .before .before .before .before .before .before .before .before .before .before .before .before .before .before .if2 .left) (enough _ (c .before .before .before .before .before .before .before .before .before .before .before .before .before .before .if3 .left) (c .before .before .before .before .before .before .before .before .before .before .before .before .before .if4 .left)) (c .before .before .before .before .before .before .before .before .fill .ensures) (c .before .before .before .before .begin .ensures)
+shared-slice-read-begin : tie.Need-shared-slice-read-begin
+unfolding startRefusal startRefusalBy short miscounted
+shared-slice-read-begin c =
+    let a = c .before .before .before .before .before .before .before .before .before .before .before .args in
+    omega (arith, given (a .values .now) (a .store .now) (a .depths .now) (sym (c .before .before .before .before .before .before .before .start-refusal .ensures) ∙ c .before .before .before .before .before .before .if1 .left) .low)
+
+begin-requires : tie.Need-begin-requires
+unfolding startRefusal startRefusalBy short miscounted
+begin-requires c κs =
+    let a = c .before .before .before .before .before .before .before .before .before .before .before .before .before .args in
+    let h = given (a .values .now) (a .store .now) (a .depths .now) (sym (c .before .before .before .before .before .before .before .before .before .start-refusal .ensures) ∙ c .before .before .before .before .before .before .before .before .if1 .left) in (h .long, h .deep-long)
+
+cast-t27 : tie.Need-cast-t27
+unfolding startRefusal startRefusalBy short miscounted
+cast-t27 c =
+    let a = c .before .before .before .before .before .before .before .before .before .before .before .before .before .before .before .before .before .before .args in
+    omega (arith, given (a .values .now) (a .store .now) (a .depths .now) (sym (c .before .before .before .before .before .before .before .before .before .before .before .before .before .before .start-refusal .ensures) ∙ c .before .before .before .before .before .before .before .before .before .before .before .before .before .if1 .left) .high)
+
+returns-2 : tie.Need-returns-2
+unfolding said begun startRefusal startRefusalBy short miscounted
+returns-2 c = starting _ _ _ (sym (c .before .before .before .before .before .before .before .before .before .before .before .before .before .before .start-refusal .ensures) ∙ c .before .before .before .before .before .before .before .before .before .before .before .before .before .if1 .left) (c .before .before .before .before .before .before .before .before .fill .ensures) (c .before .before .before .before .begin .ensures)
 
 pub start-spec : {M : Type 1} → statement M
 start-spec =
     tie.close
     (tie.spec
     (λ c κs. search needs)
+    (λ c κs. search needs)
     returns
-    (λ c κs. search needs)
-    returns-2
-    (λ c κs. search needs)
-    returns-3
-    (λ c κs. search needs)
-    returns-4
     fill-requires
+    shared-slice-read-begin
+    begin-requires
+    cast-t27
     (λ c. search needs)
-    (λ c κs. search needs)
     (λ c. search needs)
-    (λ c. search needs)
-    (λ c. search needs)
-    returns-5)
+    returns-2)
