@@ -8,14 +8,14 @@ use native.Mathlib.Omega.{arith}
 use native.Mathlib.Numerals.{add-one}
 use native.Mathlib.Decide.{decLt}
 use lib.Dec.{leb, eqb}
-use lib.ListN.{length, getD, drop, List·getD-eq-default}
+use lib.ListN.{length, getD, drop}
 use lib.Seq.{drop-cons}
-use borrow.Author.Tests.{eqb-true}
-use Rattle.schedule.specs.Number.{isDigit, pick, most, scan, numberAt}
+use Rattle.text.specs.Number.{isDigit, pick, most, scan, numberAt}
 use Rattle.schedule.specs.Line.{numbersAfter, spacedAt, nextNumber}
-use Rattle.schedule.specs.Parts.{Ahead, LastLf}
-use Rattle.schedule.specs.declared.number.Number.the-variants.{Bad, Value}
-use Rattle.schedule.proofs.NumberLaws.{digit-range}
+use Rattle.schedule.specs.Parts.{Ahead, NoLf, AheadIs, LastLf}
+use Rattle.text.specs.declared.number.Number.the-variants.{Bad, Value}
+use Rattle.text.proofs.NumberLaws.{digit-range}
+use Rattle.schedule.proofs.LineCases.{past-none, spaced-is, space-here}
 
 pub ahead-in : {s : List ℕ} {at : ℕ} → Ahead s at → at < length s
 ahead-in h = omega arith
@@ -54,10 +54,10 @@ ahead-last {s} {at} {end} l h = record { end = end; low = h; high = l .high; lf 
 -- no LF stands from k on
 pub record Free (s : List ℕ) (k : ℕ) : Type 0 where
   pub high : k ≤ length s
-  pub none : (j : ℕ) → k ≤ j → getD s j 0 ≢ 10
+  pub none : NoLf s k
 
 pub free-past : (s : List ℕ) → Free s (length s)
-free-past s = record { high = omega arith; none = λ j h z. let e : getD s j 0 ≡ 0 = List·getD-eq-default s 0 h in omega arith }
+free-past s = record { high = omega arith; none = past-none s }
 
 pub free-before : {s : List ℕ} {k : ℕ} → Free s k → getD s (k - 1) 0 ≢ 10 → Free s (k - 1)
 free-before {s} {k} f n = record { high = omega arith; none = λ j h. go j h (decLt j k) }
@@ -71,6 +71,45 @@ free-last f e = record { high = f .high; lf = e; none = f .none }
 
 pub free-all : {s : List ℕ} {k : ℕ} → Free s k → k ≤ 0 → LastLf s 0
 free-all f h = record { high = omega arith; lf = λ z. absurd (omega arith); none = λ j z. f .none j (omega arith) }
+
+-- ---- an LF ahead, sought from a place on
+
+-- none stands from the place up to k
+pub record Unseen (s : List ℕ) (at k : ℕ) : Type 0 where
+  pub low : at ≤ k
+  pub none : (j : ℕ) → at ≤ j → j < k → getD s j 0 ≢ 10
+
+pub unseen-first : (s : List ℕ) (at : ℕ) → Unseen s at at
+unseen-first s at = record { low = omega arith; none = λ j h g. absurd (omega arith) }
+
+module _ {s : List ℕ} {at k : ℕ} (u : Unseen s at k) where
+  pub unseen-more : getD s k 0 ≢ 10 → Unseen s at (k + 1)
+  unseen-more n = record { low = omega (arith, u .low); none = λ j h g. go j h g (decLt j k) }
+    where
+      go : (j : ℕ) → at ≤ j → j < k + 1 → Dec (j < k) → getD s j 0 ≢ 10
+      go j h g (yes p) = u .none j h p
+      go j h g (no p) = λ z. n (ap (λ (i : ℕ). getD s i 0) (omega arith) ∙ z)
+
+  pub unseen-found : k < length s → getD s k 0 ≡ 10 → AheadIs s at true
+  unfolding AheadIs
+  unseen-found h e = record { end = k + 1; low = omega (arith, u .low); high = omega arith; lf = ap (λ (i : ℕ). getD s i 0) (omega arith) ∙ e }
+
+  pub unseen-all : length s ≤ k → AheadIs s at false
+  unfolding AheadIs
+  unseen-all h j g = go (decLt j k)
+    where
+      go : Dec (j < k) → getD s j 0 ≢ 10
+      go (yes p) = u .none j g p
+      go (no p) = past-none s j (omega arith)
+
+-- what the flag says
+pub ahead-is : (s : List ℕ) (at : ℕ) {b : Bool} → AheadIs s at b → b ≡ true → Ahead s at
+unfolding AheadIs
+ahead-is s at h e = subst (AheadIs s at) e h
+
+pub ahead-none : (s : List ℕ) (at : ℕ) {b : Bool} → AheadIs s at b → b ≡ false → NoLf s at
+unfolding AheadIs
+ahead-none s at h e = subst (AheadIs s at) e h
 
 -- ---- past a number
 
@@ -111,13 +150,10 @@ module _ {s : List ℕ} {at v n : ℕ} (h : Ahead s at) where
   unfolding numberAt
   number-ahead e = number-pick s v n at h (isDigit (getD s at 0)) refl (eqb (getD s at 0) 48) (isDigit (getD s (at + 1) 0)) e
 
-spaced-pick : {s : List ℕ} {at v n : ℕ} → Ahead s at → (x : Bool) → eqb (getD s at 0) 32 ≡ x → pick x (numberAt s (at + 1)) Bad ≡ Value v n → Ahead s n
-spaced-pick h false p e = let u : _≡_ {A = ℕ} 0 1 = cc in absurd (omega arith)
-spaced-pick {s} {at} h true p e = number-ahead (ahead-past h (eqb-true (getD s at 0) 32 p) (λ z. omega arith)) e
-
 pub spaced-ahead : {s : List ℕ} {at v n : ℕ} → Ahead s at → spacedAt s at ≡ Value v n → Ahead s n
-unfolding spacedAt
-spaced-ahead {s} {at} h e = spaced-pick h (eqb (getD s at 0) 32) refl e
+spaced-ahead {s} {at} h e =
+    let b = space-here s at e in
+    number-ahead (ahead-past h b (λ z. omega arith)) (sym (spaced-is s at b) ∙ e)
 
 pub next-ahead : {s : List ℕ} {at v n : ℕ} → Ahead s at → (wanted : Bool) → nextNumber s at wanted ≡ Value v n → Ahead s n
 unfolding nextNumber

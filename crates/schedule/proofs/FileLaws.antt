@@ -14,17 +14,17 @@ use Rattle.rules.specs.Limits.{greatestSize, among}
 use Rattle.rules.specs.declared.step.Step.{Step}
 use Rattle.rules.proofs.RowLaws.{among-true, among-in}
 use Rattle.schedule.specs.Limits.{longest, mostSteps}
-use Rattle.schedule.specs.Number.{pick, most}
-use Rattle.schedule.specs.Stands.{Stands}
+use Rattle.text.specs.Number.{pick, most}
+use Rattle.text.specs.Stands.{Stands}
 use Rattle.schedule.specs.Lines.{Items, brokenAt, items, onItems, linesAt, linesOf}
 use Rattle.schedule.specs.Line.{onNumber, lineAt, lineOf, Holdable}
 use Rattle.schedule.specs.Header.{headerAt, headerOf, valuesWord, warmupWord, measuredWord}
 use Rattle.schedule.specs.Values.{valueAt, valueLine}
 use Rattle.schedule.specs.Schedule.{Schedule, sectionOf, fileOf, Every, Fits, Reading, faulty, sound, faultAt, Part, noPart, part, onPart, partAt, measuredFrom, warmupFrom, valuesFrom, readFile}
-use Rattle.schedule.specs.declared.file.Fault.{Fault}
-use Rattle.schedule.specs.declared.number.Number.{Number}
-use Rattle.schedule.specs.declared.number.Number.the-variants.{Bad, Value}
-use Rattle.schedule.proofs.StandsLaws.{stands-join, stands-first, stands-rest}
+use Rattle.schedule.specs.declared.fault.Fault.{Fault}
+use Rattle.text.specs.declared.number.Number.{Number}
+use Rattle.text.specs.declared.number.Number.the-variants.{Bad, Value}
+use Rattle.text.proofs.StandsLaws.{stands-join, stands-first, stands-rest}
 use Rattle.schedule.proofs.LineLaws.{line-spelled, line-read}
 use Rattle.schedule.proofs.ValueLaws.{value-spelled, value-read}
 use Rattle.schedule.proofs.HeaderLaws.{header-spelled, header-read}

@@ -4,11 +4,11 @@ use mathlib.Core.List.{List, [], _∷_}
 use Prim.Native.Nat.{ℕ, zero, suc, _+_}
 use native.Mathlib.Omega.{arith}
 use lib.ListN.{length}
-use Rattle.schedule.specs.Stands.{Stands}
+use Rattle.text.specs.Stands.{Stands}
 use Rattle.schedule.specs.Lines.{Item, broken, item, onItem, Items, brokenAt, items, before, linesAt, linesOf}
 use Rattle.schedule.specs.Schedule.{Every}
 use Rattle.schedule.proofs.LinesLaws.{lines-none}
-use Rattle.schedule.proofs.StandsLaws.{stands-none, stands-join, stands-first, stands-rest}
+use Rattle.text.proofs.StandsLaws.{stands-none, stands-join, stands-first, stands-rest}
 
 module _ {A : Type 0} (f : ℕ → Item A) where
   lines-more : (k i at n m : ℕ) (x : A) (xs : List A) → f at ≡ item x n → linesAt f k (i + 1) n ≡ items xs m → linesAt f (suc k) i at ≡ items (x ∷ xs) m

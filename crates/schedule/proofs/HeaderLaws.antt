@@ -7,44 +7,33 @@ use native.Mathlib.Omega.{arith}
 use lib.Dec.{eqb, ltb}
 use lib.ListN.{length, getD}
 use borrow.Author.Tests.{lt-ltb, eq-eqb, ltb-true, eqb-true}
-use Rattle.schedule.specs.Number.{pick, most}
-use Rattle.schedule.specs.Stands.{Stands}
-use Rattle.schedule.specs.Line.{spaced, ending, onNumber, spacedAt}
+use Rattle.text.specs.Number.{pick, most}
+use Rattle.text.specs.Stands.{Stands}
+use Rattle.schedule.specs.Line.{spaced, ending, spacedAt}
 use Rattle.schedule.specs.Header.{headerOf, onWord, wordAt, aloneAt, headerAt}
-use Rattle.schedule.specs.declared.number.Number.{Number}
-use Rattle.schedule.specs.declared.number.Number.the-variants.{Bad, Value}
+use Rattle.text.specs.declared.number.Number.{Number}
+use Rattle.text.specs.declared.number.Number.the-variants.{Bad, Value}
 use Rattle.schedule.specs.declared.header.Word.{Word}
 use Rattle.schedule.specs.declared.header.Word.the-variants.{Missing, Past}
-use Rattle.schedule.proofs.LineCases.{alone-is}
-use Rattle.schedule.proofs.StandsLaws.{stands-none, stands-join, stands-first, stands-rest, stands-byte, stands-tail, stands-here, stands-within, byte-stands}
+use Rattle.schedule.proofs.LineCases.{closed-is, closed-read}
+use Rattle.text.proofs.StandsLaws.{stands-none, stands-join, stands-first, stands-rest, stands-byte, stands-tail, stands-here, stands-within, byte-stands}
 use Rattle.schedule.proofs.LineLaws.{quiet-byte, spaced-spelled, SpacedSound, spaced-sound}
 
 -- ---- a space, a number and LF
 
 module _ (s : List ℕ) where
   pub alone-spelled : (at m v : ℕ) → v ≤ most → Stands s at m (spaced v (ending false)) → aloneAt s at ≡ Value v m
+  unfolding aloneAt
   alone-spelled at m v h p =
       let k = spaced-spelled s at m v (10 ∷ []) h (quiet-byte s m 10 [] (omega arith)) p in
-      alone-is s at (k .read) (byte-stands s (k .place) m 10 [] (k .rest)) ∙ ap (Value v) (sym (k .rest .end))
-
-  abbrev AloneSound : ℕ → Number → Type 0
-  AloneSound at Bad = Unit {0}
-  AloneSound at (Value v m) = (v ≤ most) × Stands s at m (spaced v (ending false))
-
-  alone-lf : (at v n : ℕ) → SpacedSound s at (Value v n) → (x : Bool) → eqb (getD s n 0) 10 ≡ x → AloneSound at (pick x (Value v (n + 1)) Bad)
-  alone-lf at v n h true e = (h .0, h .1 (n + 1) (10 ∷ []) (stands-byte s n 10 (omega arith) (eqb-true (getD s n 0) 10 e)))
-  alone-lf at v n h false e = tt
-
-  alone-number : (at : ℕ) (r : Number) → SpacedSound s at r → AloneSound at (onNumber r Bad (λ v n. pick (eqb (getD s n 0) 10) (Value v (n + 1)) Bad))
-  alone-number at Bad h = tt
-  alone-number at (Value v n) h = alone-lf at v n h (eqb (getD s n 0) 10) refl
-
-  alone-sound : (at : ℕ) → AloneSound at (aloneAt s at)
-  unfolding aloneAt
-  alone-sound at = alone-number at (spacedAt s at) (spaced-sound s at)
+      closed-is s (k .read) (byte-stands s (k .place) m 10 [] (k .rest)) ∙ ap (Value v) (sym (k .rest .end))
 
   pub alone-read : (at m v : ℕ) → aloneAt s at ≡ Value v m → (v ≤ most) × Stands s at m (spaced v (ending false))
-  alone-read at m v e = subst (AloneSound at) e (alone-sound at)
+  unfolding aloneAt
+  alone-read at m v e =
+      let c = closed-read s (spacedAt s at) v m e in
+      let h = subst (SpacedSound s at) (c .is) (spaced-sound s at) in
+      (h .0, subst (λ (k : ℕ). Stands s at k (spaced v (ending false))) (c .end) (h .1 (c .place + 1) (10 ∷ []) (stands-byte s (c .place) 10 (omega arith) (c .lf))))
 
 -- ---- a word
 

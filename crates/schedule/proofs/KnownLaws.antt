@@ -10,25 +10,17 @@ use lib.Dec.{ltb, leb, eqb}
 use lib.ListN.{length, getD, drop}
 use borrow.Author.Tests.{eqb-true, eqb-false}
 use Rattle.rules.specs.declared.step.Step.{Step}
-use Rattle.schedule.specs.Number.{isDigit, pick, most, scan, numberAt}
+use Rattle.text.specs.Number.{isDigit, pick, most, scan, numberAt}
 use Rattle.schedule.specs.Lines.{Item, broken, item, onItem}
 use Rattle.schedule.specs.Line.{numbersAfter, mayCut, stepOf, onNumber, End, noEnd, ends, onEnd, spacedAt, nextNumber, endAt, afterLetter, lineAt}
 use Rattle.schedule.specs.Parts.{KnownNumber, KnownNext, KnownLine, valueRead}
 use Rattle.schedule.specs.declared.line.Read.{Read}
-use Rattle.schedule.specs.declared.number.Number.{Number}
-use Rattle.schedule.specs.declared.number.Number.the-variants.{Bad, Value}
-use Rattle.schedule.proofs.NumberLaws.{inside, digit-range, number-none, number-zero-more, number-zero, number-scan, at-more, at-over, at-stop}
+use Rattle.text.specs.declared.number.Number.{Number}
+use Rattle.text.specs.declared.number.Number.the-variants.{Bad, Value}
+use Rattle.schedule.proofs.LineCases.{bad-not, same-value, same-place, spaced-is, space-here, next-wanted}
+use Rattle.text.proofs.NumberLaws.{Digit, inside, digit-here, number-none, number-zero-more, number-zero, number-scan, at-more, at-over, at-stop}
 
 -- ---- numbers
-
-bad-not : {v n : ℕ} → Bad ≡ Value v n → ⊥
-bad-not e = let z : _≡_ {A = ℕ} 0 1 = ap (λ (x : Number). onNumber x 0 (λ _ _. 1)) e in absurd (omega arith)
-
-pub same-value : {v w n m : ℕ} → Value v n ≡ Value w m → v ≡ w
-same-value e = ap (λ (x : Number). onNumber x 0 (λ v _. v)) e
-
-pub same-place : {v w n m : ℕ} → Value v n ≡ Value w m → n ≡ m
-same-place e = ap (λ (x : Number). onNumber x 0 (λ _ n. n)) e
 
 -- a scan ends where it begins, or later
 low-step : (v i w e : ℕ) (rest : Number) → (rest ≡ Value w e → i + 1 ≤ e) → (d f : Bool) → pick d (pick f rest Bad) (Value v i) ≡ Value w e → i ≤ e
@@ -79,17 +71,13 @@ module _ (s : List ℕ) (at v i : ℕ) (u : Underway s at v i) where
 
 -- it begins with a digit, and is under way after it
 pub record Begun (s : List ℕ) (at : ℕ) : Type 0 where
-  pub digit : isDigit (getD s at 0) ≡ true
-  pub here : at < length s
+  pub first : Digit s at
   pub then : Underway s at (getD s at 0 - 48) (at + 1)
 
 module _ (s : List ℕ) (at : ℕ) (k : KnownNumber s at) where
   pub begun : Begun s at
   begun = first (isDigit (getD s at 0)) refl
     where
-      here : isDigit (getD s at 0) ≡ true → at < length s
-      here d = let r = digit-range (getD s at 0) d in inside s at (omega (arith, r .0))
-
       after : scan (getD s at 0 - 48) (at + 1) (drop (at + 1) s) ≡ Value (k .value) (k .next) → Underway s at (getD s at 0 - 48) (at + 1)
       after p = record { value = k .value; end = k .next; is = k .is; rest = p; high = k .inside }
 
@@ -101,13 +89,13 @@ module _ (s : List ℕ) (at : ℕ) (k : KnownNumber s at) where
       second : isDigit (getD s at 0) ≡ true → (x : Bool) → eqb (getD s at 0) 48 ≡ x → Underway s at (getD s at 0 - 48) (at + 1)
       second d true p = zero (eqb-true (getD s at 0) 48 p) (isDigit (getD s (at + 1) 0)) refl
       second d false p =
-          let r = digit-range (getD s at 0) d in
+          let r = digit-here s at d in
           after
           (ap (λ (x : ℕ). scan x (at + 1) (drop (at + 1) s)) (omega arith)
-          ∙ (sym (at-more s 0 at (here d) d (omega (arith, r .1))) ∙ (sym (number-scan s at d (eqb-false (getD s at 0) 48 p)) ∙ k .is)))
+          ∙ (sym (at-more s 0 at (r .within) d (omega (arith, r .high))) ∙ (sym (number-scan s at d (eqb-false (getD s at 0) 48 p)) ∙ k .is)))
 
       first : (x : Bool) → isDigit (getD s at 0) ≡ x → Begun s at
-      first true d = record { digit = d; here = here d; then = second d (eqb (getD s at 0) 48) refl }
+      first true d = record { first = digit-here s at d; then = second d (eqb (getD s at 0) 48) refl }
       first false d = absurd (bad-not (sym (number-none s at d) ∙ k .is))
 
 -- ---- lines
@@ -170,21 +158,9 @@ module _ (s : List ℕ) (at : ℕ) where
 
   -- a number that is read where it is wanted has a space before it; where none is wanted, its place is the one after it
   pub next-here : (wanted : Bool) (v m : ℕ) → nextNumber s at wanted ≡ Value v m → m < length s → at < length s
-  unfolding nextNumber spacedAt
+  unfolding nextNumber
   next-here false v m e h = let p : at ≡ m = same-place e in omega arith
-  next-here true v m e h = space (eqb (getD s at 0) 32) refl e
-    where
-      space : (b : Bool) → eqb (getD s at 0) 32 ≡ b → pick b (numberAt s (at + 1)) Bad ≡ Value v m → at < length s
-      space true p g = inside s at (omega (arith, eqb-true (getD s at 0) 32 p))
-      space false p g = absurd (bad-not g)
-
-  pub next-wanted : {v m : ℕ} → nextNumber s at true ≡ Value v m → nextNumber s at true ≡ numberAt s (at + 1)
-  unfolding nextNumber spacedAt
-  next-wanted {v} {m} e = space (eqb (getD s at 0) 32) refl e
-    where
-      space : (b : Bool) → eqb (getD s at 0) 32 ≡ b → pick b (numberAt s (at + 1)) Bad ≡ Value v m → pick b (numberAt s (at + 1)) Bad ≡ numberAt s (at + 1)
-      space true p g = refl
-      space false p g = absurd (bad-not g)
+  next-here true v m e h = let b = space-here s at (sym (next-wanted s at refl) ∙ e) in inside s at (omega (arith, b))
 
 -- the parts of a line that keeps the form
 pub record Chain (s : List ℕ) (at : ℕ) (x : Step) (next : ℕ) : Type 0 where
@@ -289,14 +265,17 @@ module _ (s : List ℕ) (at : ℕ) (wanted : Bool) (k : KnownNext s at wanted) w
   behind-here = next-here s at wanted (k .value) (k .next) (k .is) (k .inside)
 
   module _ (w : wanted ≡ true) where
-    abbrev as-wanted : nextNumber s at true ≡ Value (k .value) (k .next)
-    as-wanted = ap (nextNumber s at) (sym w) ∙ k .is
+    as-wanted : spacedAt s at ≡ Value (k .value) (k .next)
+    as-wanted = sym (next-wanted s at w) ∙ k .is
+
+    behind : spacedAt s at ≡ numberAt s (at + 1)
+    behind = spaced-is s at (space-here s at as-wanted)
 
     pub behind-known : KnownNumber s (at + 1)
-    behind-known = record { value = k .value; next = k .next; is = sym (next-wanted s at as-wanted) ∙ as-wanted; inside = k .inside }
+    behind-known = record { value = k .value; next = k .next; is = sym behind ∙ as-wanted; inside = k .inside }
 
     pub behind-read : {x : Number} → numberAt s (at + 1) ≡ x → nextNumber s at wanted ≡ x
-    behind-read e = ap (nextNumber s at) w ∙ (next-wanted s at as-wanted ∙ e)
+    behind-read e = next-wanted s at w ∙ (behind ∙ e)
 
 -- the three numbers of a line, one after the other
 module _ (s : List ℕ) (at : ℕ) (k : KnownLine s at) where

@@ -1,8 +1,5 @@
-pub mod NumberLaws
-pub mod StandsLaws
-pub mod SpellLaws
-pub mod AheadLaws
 pub mod LineCases
+pub mod AheadLaws
 pub mod KnownLaws
 pub mod LinesLaws
 pub mod LineLaws
@@ -17,6 +14,4 @@ pub mod RunLaws
 pub mod WholeLaws
 pub mod DecidedLaws
 pub mod Promise
-pub mod PutLaws
-pub mod ReportLaws
 pub mod Unique

@@ -4,19 +4,71 @@ use mathlib.Core.Path.{_≡_, refl, sym, ap, _∙_}
 use mathlib.Core.Bool.{Bool, true, false}
 use mathlib.Core.List.{List}
 use mathlib.Core.Logic.{_≢_}
+use native.Mathlib.Omega.{arith}
 use native.Mathlib.Numerals.{add-one}
-use lib.Dec.{ltb}
-use lib.ListN.{length, getD, drop, drop-of-length-le}
+use lib.Dec.{ltb, eqb}
+use lib.ListN.{length, getD, drop, drop-of-length-le, List·getD-eq-default}
 use lib.Seq.{drop-cons}
-use borrow.Author.Tests.{lt-ltb, le-ltb, eq-eqb, ne-eqb}
+use borrow.Author.Tests.{lt-ltb, le-ltb, eq-eqb, ne-eqb, eqb-true}
 use Rattle.rules.specs.declared.step.Step.{Step}
-use Rattle.schedule.specs.Number.{numberAt}
+use Rattle.text.specs.Number.{pick, numberAt}
 use Rattle.schedule.specs.Lines.{Item, broken, item}
-use Rattle.schedule.specs.Line.{End, noEnd, ends, onEnd, numbersAfter, mayCut, stepOf, spacedAt, nextNumber, endAt, afterLetter, lineAt}
-use Rattle.schedule.specs.Header.{wordAt, aloneAt}
+use Rattle.schedule.specs.Line.{onNumber, closed, End, noEnd, ends, onEnd, numbersAfter, mayCut, stepOf, spacedAt, nextNumber, endAt, afterLetter, lineAt}
+use Rattle.schedule.specs.Header.{wordAt}
 use Rattle.schedule.specs.Parts.{placeAfter, placeOfEnd}
-use Rattle.schedule.specs.declared.number.Number.the-variants.{Bad, Value}
+use Rattle.text.specs.declared.number.Number.{Number}
+use Rattle.text.specs.declared.number.Number.the-variants.{Bad, Value}
 use Rattle.schedule.specs.declared.header.Word.the-variants.{Missing, Past}
+
+-- ---- past the end of the file no LF stands
+
+pub past-none : (s : List ℕ) (j : ℕ) → length s ≤ j → getD s j 0 ≢ 10
+past-none s j h z = let e : getD s j 0 ≡ 0 = List·getD-eq-default s 0 h in omega arith
+
+-- ---- numbers that were read
+
+pub bad-not : {v n : ℕ} → Bad ≡ Value v n → ⊥
+bad-not e = let z : _≡_ {A = ℕ} 0 1 = ap (λ (x : Number). onNumber x 0 (λ _ _. 1)) e in absurd (omega arith)
+
+pub same-value : {v w n m : ℕ} → Value v n ≡ Value w m → v ≡ w
+same-value e = ap (λ (x : Number). onNumber x 0 (λ v _. v)) e
+
+pub same-place : {v w n m : ℕ} → Value v n ≡ Value w m → n ≡ m
+same-place e = ap (λ (x : Number). onNumber x 0 (λ _ n. n)) e
+
+-- ---- a number that ends its line
+
+module _ (s : List ℕ) {r : Number} where
+  pub closed-none : r ≡ Bad → closed s r ≡ Bad
+  unfolding closed
+  closed-none e = rw e
+
+  pub closed-more : {v n : ℕ} → r ≡ Value v n → getD s n 0 ≢ 10 → closed s r ≡ Bad
+  unfolding closed
+  closed-more {v} {n} e f = rw (e, ne-eqb (getD s n 0) 10 f)
+
+  pub closed-past : {v n : ℕ} → r ≡ Value v n → length s ≤ n → closed s r ≡ Bad
+  closed-past {v} {n} e h = closed-more e (past-none s n h)
+
+  pub closed-is : {v n : ℕ} → r ≡ Value v n → getD s n 0 ≡ 10 → closed s r ≡ Value v (n + 1)
+  unfolding closed
+  closed-is e f = rw (e, f)
+
+-- it was read up to its LF
+pub record Closed (s : List ℕ) (r : Number) (v m : ℕ) : Type 0 where
+  pub place : ℕ
+  pub is : r ≡ Value v place
+  pub lf : getD s place 0 ≡ 10
+  pub end : place + 1 ≡ m
+
+pub closed-read : (s : List ℕ) (r : Number) (v m : ℕ) → closed s r ≡ Value v m → Closed s r v m
+unfolding closed
+closed-read s Bad v m e = absurd (bad-not e)
+closed-read s (Value w n) v m e = go (eqb (getD s n 0) 10) refl e
+  where
+    go : (x : Bool) → eqb (getD s n 0) 10 ≡ x → pick x (Value w (n + 1)) Bad ≡ Value v m → Closed s (Value w n) v m
+    go true p q = record { place = n; is = ap (λ (u : ℕ). Value u n) (same-value q); lf = eqb-true (getD s n 0) 10 p; end = same-place q }
+    go false p q = absurd (bad-not q)
 
 module _ (s : List ℕ) (at : ℕ) where
   -- ---- a space and a number
@@ -28,6 +80,15 @@ module _ (s : List ℕ) (at : ℕ) where
   unfolding spacedAt
   spaced-not n = rw (ne-eqb (getD s at 0) 32 n)
 
+  -- what is read behind a space has one before it
+  pub space-here : {v m : ℕ} → spacedAt s at ≡ Value v m → getD s at 0 ≡ 32
+  unfolding spacedAt
+  space-here {v} {m} e = space (eqb (getD s at 0) 32) refl e
+    where
+      space : (b : Bool) → eqb (getD s at 0) 32 ≡ b → pick b (numberAt s (at + 1)) Bad ≡ Value v m → getD s at 0 ≡ 32
+      space true p g = eqb-true (getD s at 0) 32 p
+      space false p g = absurd (bad-not g)
+
   pub next-wanted : {wanted : Bool} → wanted ≡ true → nextNumber s at wanted ≡ spacedAt s at
   unfolding nextNumber
   next-wanted e = rw e
@@ -35,19 +96,6 @@ module _ (s : List ℕ) (at : ℕ) where
   pub next-none : {wanted : Bool} → wanted ≡ false → nextNumber s at wanted ≡ Value 0 at
   unfolding nextNumber
   next-none e = rw e
-
-  -- ---- a number alone on the rest of its line
-  pub alone-none : spacedAt s at ≡ Bad → aloneAt s at ≡ Bad
-  unfolding aloneAt
-  alone-none e = rw e
-
-  pub alone-more : {v n : ℕ} → spacedAt s at ≡ Value v n → getD s n 0 ≢ 10 → aloneAt s at ≡ Bad
-  unfolding aloneAt
-  alone-more {v} {n} e f = rw (e, ne-eqb (getD s n 0) 10 f)
-
-  pub alone-is : {v n : ℕ} → spacedAt s at ≡ Value v n → getD s n 0 ≡ 10 → aloneAt s at ≡ Value v (n + 1)
-  unfolding aloneAt
-  alone-is e f = rw (e, f)
 
   -- ---- the end of a line
   pub end-plain : (may : Bool) → getD s at 0 ≡ 10 → endAt s at may ≡ ends false (at + 1)

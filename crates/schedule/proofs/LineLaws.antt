@@ -9,15 +9,15 @@ use lib.ListN.{length, getD}
 use borrow.Author.Tests.{eqb-true, lt-ltb}
 use Rattle.rules.specs.declared.step.Step.{Step}
 use Rattle.rules.specs.declared.step.Step.the-variants.{DeliverE, DeliverS, DeliverF, DeliverDecision, Suspect, Pause, Crash, Recover}
-use Rattle.schedule.specs.Number.{pick, isDigit, most, numberAt, spelled}
-use Rattle.schedule.specs.Stands.{Stands}
+use Rattle.text.specs.Number.{pick, isDigit, most, numberAt, spelled}
+use Rattle.text.specs.Stands.{Stands}
 use Rattle.schedule.specs.Lines.{Item, broken, item}
 use Rattle.schedule.specs.Line.{ending, spaced, lineOf, Holdable, numbersAfter, mayCut, stepOf, onNumber, End, noEnd, ends, onEnd, spacedAt, nextNumber, endAt, afterLetter, lineAt}
-use Rattle.schedule.specs.declared.number.Number.{Number}
-use Rattle.schedule.specs.declared.number.Number.the-variants.{Bad, Value}
+use Rattle.text.specs.declared.number.Number.{Number}
+use Rattle.text.specs.declared.number.Number.the-variants.{Bad, Value}
 use Rattle.schedule.proofs.LineCases.{spaced-is, next-wanted, next-none, end-plain, end-cut}
-use Rattle.schedule.proofs.StandsLaws.{stands-join, stands-first, stands-rest, stands-byte, byte-stands, stands-cons, stands-tail}
-use Rattle.schedule.proofs.SpellLaws.{number-spelled, number-read}
+use Rattle.text.proofs.StandsLaws.{stands-join, stands-first, stands-rest, stands-byte, byte-stands, stands-cons, stands-tail}
+use Rattle.text.proofs.SpellLaws.{number-spelled, number-read}
 
 -- ---- what follows a letter, over the count of its numbers
 

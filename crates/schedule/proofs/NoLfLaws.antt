@@ -2,21 +2,21 @@
 use mathlib.Core.Path.{_≡_, refl, sym, ap, _∙_}
 use mathlib.Core.Bool.{Bool, true, false}
 use mathlib.Core.List.{List, [], _∷_, _++_}
-use mathlib.Core.Logic.{_≢_}
 use Prim.Native.Nat.{ℕ, _+_, _-_, _≤_, _<_}
 use native.Mathlib.Omega.{arith}
 use lib.ListN.{length, getD}
 use Rattle.rules.specs.declared.step.Step.{Step}
 use Rattle.rules.specs.declared.step.Step.the-variants.{DeliverE, DeliverS, DeliverF, DeliverDecision, Suspect, Pause, Crash, Recover}
-use Rattle.schedule.specs.Number.{spelled}
-use Rattle.schedule.specs.Stands.{Stands}
+use Rattle.text.specs.Number.{spelled}
+use Rattle.text.specs.Stands.{Stands}
 use Rattle.schedule.specs.Lines.{Item, broken, item}
 use Rattle.schedule.specs.Line.{spaced, ending, lineOf, lineAt}
 use Rattle.schedule.specs.Values.{valueAt}
 use Rattle.schedule.specs.Header.{aloneAt}
-use Rattle.schedule.specs.declared.number.Number.{Number}
-use Rattle.schedule.specs.declared.number.Number.the-variants.{Bad, Value}
-use Rattle.schedule.proofs.StandsLaws.{stands-rest, stands-within, byte-stands}
+use Rattle.schedule.specs.Parts.{NoLf}
+use Rattle.text.specs.declared.number.Number.{Number}
+use Rattle.text.specs.declared.number.Number.the-variants.{Bad, Value}
+use Rattle.text.proofs.StandsLaws.{stands-rest, stands-within, byte-stands}
 use Rattle.schedule.proofs.LineLaws.{line-read}
 use Rattle.schedule.proofs.ValueLaws.{value-read}
 use Rattle.schedule.proofs.HeaderLaws.{alone-read}
@@ -78,7 +78,7 @@ module _ (s : List ℕ) where
   pub alone-lf : (at m v : ℕ) → aloneAt s at ≡ Value v m → EndsInLf s at m
   alone-lf at m v e = lf-spaced v (10 ∷ []) lf-only at m (alone-read s at m v e .1)
 
-module _ (s : List ℕ) (at : ℕ) (none : (j : ℕ) → at ≤ j → getD s j 0 ≢ 10) where
+module _ (s : List ℕ) (at : ℕ) (none : NoLf s at) where
   no-end : (m : ℕ) → EndsInLf s at m → ⊥
   no-end m h = none (m - 1) (omega (arith, h .low)) (h .lf)
 

@@ -25,7 +25,7 @@ use Rattle.rules.proofs.Safety.Chains.{depth-is-longest}
 use Rattle.rules.proofs.Safety.Depths.{DeepBasic, deep-basic, deep-few, deep-more, depths-change-nothing, answers-forget, answers-stay}
 use Rattle.rules.proofs.Safety.Entries.{sent-counts}
 use Rattle.rules.proofs.Safety.Theorem.{safety}
-use Rattle.schedule.specs.Number.{most}
+use Rattle.text.specs.Number.{most}
 use Rattle.schedule.specs.Counts.{none, isRefused, counted, countedAll}
 use Rattle.schedule.specs.Schedule.{Schedule, Reading, sound, readFile, Every, Fits}
 use Rattle.schedule.specs.Run.{outcome, countsOf, begins, between, atEnd, hasRun, runBy, runOf}

@@ -8,28 +8,29 @@ use native.Mathlib.Numerals.{add-one}
 use native.Mathlib.Decide.{ℕ-discrete}
 use Prim.Native.Nat.{ℕ, _+_, _-_, _≤_, _<_}
 use lib.Dec.{leb}
-use lib.ListN.{length, getD, take, set, length-set}
+use lib.ListN.{length, take, set, length-set}
 use lib.Seq.{take-suc-set, length-take-le}
 use borrow.Author.Tests.{eq-eqb, ne-eqb, le-leb, lt-leb}
 use Rattle.rules.specs.Limits.{greatestSize, among}
 use Rattle.rules.specs.declared.step.Step.{Step}
 use Rattle.rules.proofs.RowLaws.{among-in}
 use Rattle.schedule.specs.Limits.{longest, mostSteps}
-use Rattle.schedule.specs.Number.{numberAt}
+use Rattle.text.specs.Number.{numberAt}
 use Rattle.schedule.specs.Lines.{Item, broken, item, onItem, Items, brokenAt, items, before, linesAt}
-use Rattle.schedule.specs.Line.{lineAt}
+use Rattle.schedule.specs.Line.{onNumber, closed, lineAt, asLine}
 use Rattle.schedule.specs.Header.{wordAt, aloneAt, headerAt, valuesWord, warmupWord, measuredWord}
 use Rattle.schedule.specs.Values.{valueAt}
 use Rattle.schedule.specs.Schedule.{faulty, faultAt, noFault, noPart, part, partAt, measuredFrom, warmupFrom, valuesFrom, readFile}
-use Rattle.schedule.specs.Parts.{LastLf, placeAfter, linesEnd, numberOf, valuesRead, PartGood, PartIs, OpeningGood, OpeningIs, ValuesAre, StepsAre, FormCase, FormIs}
-use Rattle.schedule.specs.declared.number.Number.{Number}
-use Rattle.schedule.specs.declared.number.Number.the-variants.{Bad, Value}
+use Rattle.schedule.specs.Parts.{LastLf, placeAfter, linesEnd, numberOf, valuesRead, KnownLine, PartGood, PartIs, OpeningGood, OpeningIs, ValuesAre, StepsAre, FormCase, FormIs}
+use Rattle.text.specs.declared.number.Number.{Number}
+use Rattle.text.specs.declared.number.Number.the-variants.{Bad, Value}
 use Rattle.schedule.specs.declared.header.Word.{Word}
 use Rattle.schedule.specs.declared.header.Word.the-variants.{Missing, Past}
+use Rattle.schedule.specs.declared.line.Line.{Line}
 use Rattle.schedule.specs.declared.section.Lines.{Lines}
 use Rattle.schedule.specs.declared.values.Values.{Values}
 use Rattle.schedule.specs.declared.part.Part.{Part as PartFound}
-use Rattle.schedule.specs.declared.file.Fault.{Fault}
+use Rattle.schedule.specs.declared.fault.Fault.{Fault}
 use Rattle.schedule.specs.declared.file.Opening.{Opening}
 use Rattle.schedule.specs.declared.file.Places.{Places}
 use Rattle.schedule.specs.declared.file.Sections.{Sections}
@@ -59,19 +60,14 @@ pub value-late : {s : List ℕ} {end : ℕ} (at : ℕ) → LastLf s end → end 
 unfolding numberOf
 value-late {s} {end} at l h = rw (no-value s at (λ j q. l .none j (omega arith)))
 
-module _ (s : List ℕ) (at : ℕ) {r : Number} (e : r ≡ numberAt s at) where
-  pub value-none : r ≡ Bad → Bad ≡ numberOf (valueAt s at)
-  unfolding numberOf valueAt
-  value-none g = rw (sym e, g)
+item-closed : (r : Number) → r ≡ numberOf (onNumber r broken item)
+unfolding numberOf
+item-closed Bad = refl
+item-closed (Value v n) = refl
 
-  module _ {v n : ℕ} (g : r ≡ Value v n) where
-    pub value-ends : getD s n 0 ≡ 10 → Value v (n + 1) ≡ numberOf (valueAt s at)
-    unfolding numberOf valueAt
-    value-ends f = rw (sym e, g, f)
-
-    pub value-goes : getD s n 0 ≢ 10 → Bad ≡ numberOf (valueAt s at)
-    unfolding numberOf valueAt
-    value-goes f = rw (sym e, g, ne-eqb (getD s n 0) 10 f)
+pub value-closed : (s : List ℕ) (at : ℕ) {r k : Number} → r ≡ numberAt s at → k ≡ closed s r → k ≡ numberOf (valueAt s at)
+unfolding valueAt
+value-closed s at e f = f ∙ ap (closed s) e ∙ item-closed (closed s (numberAt s at))
 
 -- ---- value lines, read one by one into an array
 
@@ -161,11 +157,17 @@ pub record Checking (s : List ℕ) (at count i place : ℕ) : Type 0 where
 pub checking-none : (s : List ℕ) (at count : ℕ) → Checking s at count 0 at
 checking-none s at count = record { low = omega arith; is = ap (λ (k : ℕ). linesEnd (linesAt (lineAt s) k 0 at)) (omega arith) }
 
+-- ---- any step line
+
 -- a line that is read ends past its place, so that 0 says that it breaks the form
-line-fails : (s : List ℕ) (place : ℕ) (r : Item Step) → lineAt s place ≡ r → placeAfter r ≡ 0 → lineAt s place ≡ broken
+pub line-fails : (s : List ℕ) (place : ℕ) (r : Item Step) → lineAt s place ≡ r → placeAfter r ≡ 0 → lineAt s place ≡ broken
 unfolding placeAfter
 line-fails s place broken f e = f
 line-fails s place (item x m) f e = let k = line-lf s place m x f .low in absurd (omega arith)
+
+pub line-fault : (s : List ℕ) (at : ℕ) → lineAt s at ≡ broken → Line.Bad ≡ asLine (lineAt s at)
+unfolding asLine
+line-fault s at e = rw e
 
 record Stood (r : Item Step) (m : ℕ) : Type 0 where
   step : Step
@@ -175,6 +177,13 @@ line-stood : (r : Item Step) → placeAfter r ≢ 0 → Stood r (placeAfter r)
 unfolding placeAfter
 line-stood broken n = absurd (n refl)
 line-stood (item x m) n = record { step = x; is = refl }
+
+pub line-known : (s : List ℕ) (at : ℕ) → placeAfter (lineAt s at) ≢ 0 → KnownLine s at
+line-known s at n = let k = line-stood (lineAt s at) n in record { step = k .step; next = placeAfter (lineAt s at); is = k .is }
+
+pub line-taken : (s : List ℕ) (at : ℕ) {x : Step} {m : ℕ} → lineAt s at ≡ item x m → Line.Good x m ≡ asLine (lineAt s at)
+unfolding asLine
+line-taken s at e = rw e
 
 module _ {s : List ℕ} {at count i place : ℕ} (h : Checking s at count i place) where
   -- no line stands behind the last LF

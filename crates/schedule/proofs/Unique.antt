@@ -3,7 +3,6 @@ use mathlib.Core.Path.{_≡_, sym, ap, _∙_}
 use mathlib.Core.List.{List}
 use Prim.Native.Nat.{ℕ}
 use Rattle.schedule.specs.Run.{Outcome, Runs}
-use Rattle.schedule.specs.Report.{Reports}
 use Rattle.schedule.specs.declared.run.Ran.{Ran}
 
 -- of the run: the answer and the whole content of both stores
@@ -12,14 +11,4 @@ run-one s l d x y = (
   ap (λ (o : Outcome). o .ran) (x ∙ sym y),
   ap (λ (o : Outcome). o .store) (x ∙ sym y),
   ap (λ (o : Outcome). o .depths) (x ∙ sym y),
-)
-
--- of the report: the length, the whole content of the lent array and of both stores
-pub report-one : {s l d out a b a′ b′ out₁ out₂ : List ℕ} {r q : ℕ} → Reports s l d out a a′ out₁ r → Reports s l d out b b′ out₂ q
-    → (r ≡ q) × (out₁ ≡ out₂) × (a ≡ b) × (a′ ≡ b′)
-report-one x y = (
-  x .bytes .end ∙ sym (y .bytes .end),
-  x .bytes .bytes ∙ sym (y .bytes .bytes),
-  x .store ∙ sym (y .store),
-  x .depths ∙ sym (y .depths),
 )

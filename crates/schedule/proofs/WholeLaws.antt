@@ -26,7 +26,7 @@ use Rattle.schedule.specs.Run.{countsOf, hasRun, notRun, runBy, runOf, b
 use Rattle.schedule.specs.Run.{outcome as ranTo}
 use Rattle.schedule.specs.Parts.{FormGood, FormCase, FormIs, RunReady, stateWith, RanSteps, RanTo, BothReady, RanBoth, BothRan, SoundRan}
 use Rattle.schedule.specs.declared.counts.Counts.{Counts}
-use Rattle.schedule.specs.declared.file.Fault.{Fault}
+use Rattle.schedule.specs.declared.fault.Fault.{Fault}
 use Rattle.schedule.specs.declared.file.Form.{Form}
 use Rattle.schedule.specs.declared.file.Places.{Places}
 use Rattle.schedule.specs.declared.run.Ran.{Ran}

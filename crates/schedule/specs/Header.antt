@@ -1,14 +1,14 @@
 -- Document 01, "The schedule file and the report": "Sections in a fixed order, each after its count". What stands at a place of a file as a fixed word and as a section's
 -- first line. Assumes nothing.
-use mathlib.Core.Bool.{true, false}
+use mathlib.Core.Bool.{false}
 use mathlib.Core.List.{List, [], _∷_, _++_}
 use Prim.Native.Nat.{ℕ, _+_}
 use lib.Dec.{eqb, ltb}
 use lib.ListN.{length, getD}
-use Rattle.schedule.specs.Number.{pick}
-use Rattle.schedule.specs.Line.{lineFeed, spaced, ending, onNumber, spacedAt}
-use Rattle.schedule.specs.declared.number.Number.{Number}
-use Rattle.schedule.specs.declared.number.Number.the-variants.{Bad, Value}
+use Rattle.text.specs.Number.{pick}
+use Rattle.schedule.specs.Line.{spaced, ending, closed, spacedAt}
+use Rattle.text.specs.declared.number.Number.{Number}
+use Rattle.text.specs.declared.number.Number.the-variants.{Bad}
 use Rattle.schedule.specs.declared.header.Word.{Word}
 use Rattle.schedule.specs.declared.header.Word.the-variants.{Missing, Past}
 
@@ -37,7 +37,7 @@ wordAt s at (b ∷ w) = pick (ltb at (length s)) (pick (eqb (getD s at 0) b) (wo
 
 -- a space, a number and LF
 unfoldable pub aloneAt : List ℕ → ℕ → Number
-aloneAt s at = onNumber (spacedAt s at) Bad (λ v n. pick (eqb (getD s n 0) lineFeed) (Value v (n + 1)) Bad)
+aloneAt s at = closed s (spacedAt s at)
 
 unfoldable pub headerAt : List ℕ → ℕ → List ℕ → Number
 headerAt s at w = onWord (wordAt s at w) Bad (λ n. aloneAt s n)

@@ -7,10 +7,11 @@ use lib.Dec.{eqb, ltb}
 use lib.ListN.{getD}
 use Rattle.rules.specs.declared.step.Step.{Step}
 use Rattle.rules.specs.declared.step.Step.the-variants.{DeliverE, DeliverS, DeliverF, DeliverDecision, Suspect, Pause, Crash, Recover}
-use Rattle.schedule.specs.Number.{pick, most, numberAt, spelled}
+use Rattle.text.specs.Number.{pick, most, numberAt, spelled}
 use Rattle.schedule.specs.Lines.{Item, broken, item}
-use Rattle.schedule.specs.declared.number.Number.{Number}
-use Rattle.schedule.specs.declared.number.Number.the-variants.{Bad, Value}
+use Rattle.text.specs.declared.number.Number.{Number}
+use Rattle.text.specs.declared.number.Number.the-variants.{Bad, Value}
+use Rattle.schedule.specs.declared.line.Line.{Line}
 
 -- ---- the bytes of a step line, each once
 
@@ -126,6 +127,10 @@ abbrev pub onEnd : {A : Type 0} → End → A → (Bool → ℕ → A) → A
 onEnd noEnd z f = z
 onEnd (ends x n) z f = f x n
 
+-- a number that ends its line: LF stands behind it
+unfoldable pub closed : List ℕ → Number → Number
+closed s r = onNumber r Bad (λ v n. pick (eqb (getD s n 0) lineFeed) (Value v (n + 1)) Bad)
+
 -- a space and a number
 unfoldable pub spacedAt : List ℕ → ℕ → Number
 spacedAt s at = pick (eqb (getD s at 0) spaceByte) (numberAt s (at + 1)) Bad
@@ -157,3 +162,8 @@ afterLetter b s at =
 -- the step line at a place
 unfoldable pub lineAt : List ℕ → ℕ → Item Step
 lineAt s at = pick (eqb (numbersAfter (getD s at 0)) 0) broken (afterLetter (getD s at 0) s (at + 1))
+
+-- the same, as the code answers it
+unfoldable pub asLine : Item Step → Line
+asLine broken = Line.Bad
+asLine (item x m) = Line.Good x m

@@ -13,12 +13,12 @@ use Rattle.rules.specs.Parts.{Ready}
 use Rattle.rules.specs.declared.group.Group.{Group}
 use Rattle.rules.specs.declared.step.Step.{Step}
 use Rattle.schedule.specs.Limits.{mostSteps}
-use Rattle.schedule.specs.Number.{pick, numberAt}
+use Rattle.text.specs.Number.{pick, numberAt}
 use Rattle.schedule.specs.Lines.{Item, broken, item, Items, brokenAt, items, linesAt}
 use Rattle.schedule.specs.Line.{End, noEnd, ends, nextNumber, lineAt}
 use Rattle.schedule.specs.Schedule.{Schedule, faulty, sound, valuesFrom, warmupFrom, readFile, partAt, noPart, part, noFault}
 use Rattle.schedule.specs.Run.{countsOf, outcome, runBy}
-use Rattle.schedule.specs.declared.number.Number.{Number}
+use Rattle.text.specs.declared.number.Number.{Number}
 use Rattle.schedule.specs.declared.line.Read.{Read}
 use Rattle.schedule.specs.declared.line.Taken.{Taken}
 use Rattle.schedule.specs.declared.section.Lines.{Lines}
@@ -40,11 +40,20 @@ pub record Ahead (s : List ℕ) (at : ℕ) : Type 0 where
   pub high : end ≤ length s
   pub lf : getD s (end - 1) 0 ≡ 10
 
+-- none does
+abbrev pub NoLf : List ℕ → ℕ → Type 0
+NoLf s at = (j : ℕ) → at ≤ j → getD s j 0 ≢ 10
+
+-- which of the two it is
+unfoldable pub AheadIs : List ℕ → ℕ → Bool → Type 0
+AheadIs s at true = Ahead s at
+AheadIs s at false = NoLf s at
+
 -- end is the place after the last LF, 0 where there is none
 pub record LastLf (s : List ℕ) (end : ℕ) : Type 0 where
   pub high : end ≤ length s
   pub lf : 0 < end → getD s (end - 1) 0 ≡ 10
-  pub none : (j : ℕ) → end ≤ j → getD s j 0 ≢ 10
+  pub none : NoLf s end
 
 -- the place after a line, after a line's end; 0 where the form is broken
 unfoldable pub placeAfter : Item Step → ℕ

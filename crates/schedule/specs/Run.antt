@@ -6,7 +6,7 @@ use Rattle.rules.specs.declared.step.Step.{Step}
 use Rattle.rules.specs.DepthRun.{DeepState, startState, after, answers}
 use Rattle.schedule.specs.Schedule.{Schedule, Reading, faulty, sound, readFile, noFault}
 use Rattle.rules.specs.Records.{blankGroup}
-use Rattle.schedule.specs.declared.file.Fault.{Fault}
+use Rattle.schedule.specs.declared.fault.Fault.{Fault}
 use Rattle.schedule.specs.Counts.{none, countedAll}
 use Rattle.schedule.specs.declared.counts.Counts.{Counts}
 use Rattle.schedule.specs.declared.run.Ran.{Ran}

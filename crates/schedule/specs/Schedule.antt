@@ -7,12 +7,12 @@ use lib.ListN.{length}
 use Rattle.rules.specs.Limits.{greatestSize, among}
 use Rattle.rules.specs.declared.step.Step.{Step}
 use Rattle.schedule.specs.Limits.{longest, mostSteps}
-use Rattle.schedule.specs.Number.{pick, most}
+use Rattle.text.specs.Number.{pick, most}
 use Rattle.schedule.specs.Lines.{Items, onItems, linesAt, linesOf}
 use Rattle.schedule.specs.Line.{onNumber, lineAt, lineOf, Holdable}
 use Rattle.schedule.specs.Header.{headerAt, headerOf, valuesWord, warmupWord, measuredWord}
 use Rattle.schedule.specs.Values.{valueAt, valueLine}
-use Rattle.schedule.specs.declared.file.Fault.{Fault}
+use Rattle.schedule.specs.declared.fault.Fault.{Fault}
 
 -- the first values, and the steps of the two sections
 pub record Schedule : Type 0 where

@@ -1,33 +1,19 @@
 // A schedule file, whole: VALUES, WARMUP and MEASURED in that order, and nothing after the last step.
 // A file is sound, or has one fault: its number and its line.
 ghost use mathlib.Core.Path.{_≡_};
-ghost use Prim.Native.Nat.{_≤_, _<_, _^_};
+ghost use Prim.Native.Nat.{_≤_, _<_};
 ghost use Rattle.rules.specs.Limits.{greatestSize};
 ghost use Rattle.schedule.specs.Limits as limits;
-ghost use Rattle.schedule.specs.Schedule.{noFault, faultAt};
+ghost use Rattle.schedule.specs.Schedule.{faultAt};
 ghost use Rattle.schedule.specs.Parts.{LastLf, ValuesAre, StepsAre, FormIs};
+use crate::fault::Fault;
 use crate::header::header_at;
-use crate::number::Number;
+use crate::lf::last_end;
 use crate::part::Part;
 use crate::part::part_at;
-use crate::section::last_end;
 use crate::values::read_values;
 use rules::group::Group;
-
-// Where a file is faulty: the refusal's number and the line, counted from 1; a file that is too long has line 0.
-// Number 0 says that the file has no fault.
-pub struct Fault {
-    pub number: u8,
-    pub line: u32,
-}
-
-impl Fault {
-    pub(crate) fn none() -> Fault
-        ensures { λ r. ⌜ r ≡ noFault ⌝ }
-    {
-        Fault { number: 0, line: 0 }
-    }
-}
+use text::number::Number;
 
 // The limits of a file.
 pub struct File {}
@@ -152,20 +138,22 @@ pub(crate) fn read_sections(s: &[u8], end: usize, n: u32, at: usize) -> Sections
     ensures { λ r. ⌜ StepsAre (now (s .entry)) n at r ⌝ }
 {
     match part_at(s, at, end, b"WARMUP", n + 2, File::MOST_STEPS) {
-        Part::Good(k, a, m) => {
-            match part_at(s, m, end, b"MEASURED", n + k + 3, File::MOST_STEPS - k) {
-                Part::Good(j, b, e) => {
-                    if e != s.len() {
+        Part::Good(warmup, warmup_at, warmup_end) => {
+            let line = n + warmup + 3;
+            let left = File::MOST_STEPS - warmup;
+            match part_at(s, warmup_end, end, b"MEASURED", line, left) {
+                Part::Good(measured, measured_at, measured_end) => {
+                    if measured_end != s.len() {
                         return Sections::Bad(Fault {
                             number: 9,
-                            line: n + k + j + 4,
+                            line: n + warmup + measured + 4,
                         });
                     }
                     Sections::Good(Places {
-                        warmup: k,
-                        start: a,
-                        measured: j,
-                        middle: b,
+                        warmup: warmup,
+                        start: warmup_at,
+                        measured: measured,
+                        middle: measured_at,
                     })
                 }
                 Part::Bad(fault) => Sections::Bad(fault),

@@ -1,9 +1,12 @@
-// Section headers: a fixed word, a space, a count and LF. The report emits the same words.
+// Section headers: a fixed word, a space, a count and LF.
+// Each function answers what the definition of a header says of the bytes; the public one takes any place of any bytes.
 ghost use mathlib.Core.Path.{_≡_};
 ghost use Rattle.schedule.specs.Header.{wordAt, aloneAt, headerAt};
 ghost use Rattle.schedule.specs.Parts.{Ahead, LastLf};
+use crate::lf::last_end;
 use crate::line::spaced_at;
-use crate::number::Number;
+use crate::number::closed;
+use text::number::Number;
 
 // The place after a word that stands at a place, or nothing.
 pub(crate) enum Word {
@@ -34,16 +37,8 @@ pub(crate) fn alone_at(s: &[u8], at: usize) -> Number
     requires { ⌜ Ahead (now s) at ⌝ }
     ensures { λ r. ⌜ r ≡ aloneAt (now (s .entry)) at ⌝ }
 {
-    match spaced_at(s, at) {
-        Number::Value(v, n) => {
-            if s[n] == 10 {
-                Number::Value(v, n + 1)
-            } else {
-                Number::Bad
-            }
-        }
-        Number::Bad => Number::Bad,
-    }
+    let number = spaced_at(s, at);
+    closed(s, number)
 }
 
 // A word and its count, to the end of the line, in a file whose last LF stands before end.
@@ -60,4 +55,12 @@ pub(crate) fn header_at(s: &[u8], at: usize, end: usize, word: &[u8]) -> Number
         }
         Word::Missing => Number::Bad,
     }
+}
+
+// The same in any file: the count and the place after the line, or no number where the line breaks the form.
+pub fn heading(s: &[u8], at: usize, word: &[u8]) -> Number
+    ensures { λ r. ⌜ r ≡ headerAt (now (s .entry)) at (now (word .entry)) ⌝ }
+{
+    let end = last_end(s);
+    header_at(s, at, end, word)
 }

@@ -1,14 +1,14 @@
-// Schedule files, the run over them, and the report's bytes.
+// Schedule files, and the run over them.
 // The file is lent and read in place; no step list is kept. Of the rules this crate knows what their contracts state, and nothing else.
 pub mod counts;
+pub mod fault;
 pub mod file;
-mod header;
-mod line;
+pub mod header;
+mod lf;
+pub mod line;
 mod number;
 mod part;
 mod reader;
-pub mod report;
 pub mod run;
 mod section;
-mod text;
 mod values;

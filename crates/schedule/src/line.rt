@@ -1,12 +1,14 @@
 // Step lines: a letter, its numbers, ` X` where the step is cut, and LF.
+// Each function answers what the definition of a step line says of the bytes; the public one takes any place of any bytes.
 ghost use mathlib.Core.Path.{_≡_};
-ghost use Rattle.schedule.specs.Number.{numberAt};
-ghost use Rattle.schedule.specs.Line.{numbersAfter, mayCut, stepOf, spacedAt, nextNumber, endAt, lineAt};
+ghost use Rattle.text.specs.Number.{numberAt};
+ghost use Rattle.schedule.specs.Line.{numbersAfter, mayCut, stepOf, spacedAt, nextNumber, endAt, lineAt, asLine};
 ghost use Rattle.schedule.specs.Parts.{Ahead, placeAfter, placeOfEnd, KnownNumber, KnownNext, KnownLine, valueRead, lineRead};
-use crate::number::Number;
+use crate::lf::lf_ahead;
 use crate::number::decimal_at;
-use crate::number::is_digit;
 use rules::step::Step;
+use text::number::Number;
+use text::number::is_digit;
 
 // How many numbers follow a step letter; 0 for any other letter.
 pub(crate) fn numbers_after(letter: u8) -> u8
@@ -205,4 +207,27 @@ pub(crate) fn known_line(s: &[u8], at: usize) -> Taken
     let step = step_of(letter, first, second, third, cut);
     let next = if cut { end + 3 } else { end + 1 };
     Taken { step, next }
+}
+
+// ---- any line
+
+// A step and the place after its line, or a line that breaks the form.
+pub enum Line {
+    Bad,
+    Good(Step, usize),
+}
+
+// What stands at a place as a step line.
+pub fn step_line(s: &[u8], at: usize) -> Line
+    ensures { λ r. ⌜ r ≡ asLine (lineAt (now (s .entry)) at) ⌝ }
+{
+    if !lf_ahead(s, at) {
+        return Line::Bad;
+    }
+    if line_end(s, at) == 0 {
+        return Line::Bad;
+    }
+    let taken = known_line(s, at);
+    let step = taken.step;
+    Line::Good(step, taken.next)
 }

@@ -1,28 +1,13 @@
-// Decimals: at most 4,294,967,295, without leading zeros.
-// A place is read only where an LF stands ahead of it, so that no byte needs a test of the file's end.
+// Decimals within lines, and a number that ends its line.
+// A decimal is what crate text says it is. It is read only where an LF stands ahead, so that no byte needs a test of the file's end.
 ghost use mathlib.Core.Path.{_≡_};
 ghost use Prim.Native.Nat.{_≤_};
 ghost use lib.ListN.{drop};
-ghost use Rattle.schedule.specs.Number.{most, isDigit, numberAt, scan};
+ghost use Rattle.text.specs.Number.{most, numberAt, scan};
+ghost use Rattle.schedule.specs.Line as lines;
 ghost use Rattle.schedule.specs.Parts.{Ahead};
-
-// A number and the place after it, or no number.
-pub(crate) enum Number {
-    Bad,
-    Value(u32, usize),
-}
-
-impl Number {
-    // The greatest number that a file can hold.
-    pub(crate) const MOST: u64 = 4294967295;
-}
-
-// Whether a byte is one of `0` to `9`.
-pub(crate) fn is_digit(b: u8) -> bool
-    ensures { λ r. ⌜ r ≡ isDigit b ⌝ }
-{
-    if b < 48 { false } else { b <= 57 }
-}
+use text::number::Number;
+use text::number::is_digit;
 
 // The digits at a place, after a number v that was read up to it.
 pub(crate) fn more_digits(s: &[u8], at: usize, v: u64) -> Number
@@ -58,4 +43,22 @@ pub(crate) fn decimal_at(s: &[u8], at: usize) -> Number
         return Number::Bad;
     }
     more_digits(s, at + 1, (first - 48) as u64)
+}
+
+// A number that ends its line: LF stands behind it.
+pub(crate) fn closed(s: &[u8], number: Number) -> Number
+    ensures { λ r. ⌜ r ≡ lines.closed (now (s .entry)) number ⌝ }
+{
+    match number {
+        Number::Value(value, next) => {
+            if next >= s.len() {
+                return Number::Bad;
+            }
+            if s[next] != 10 {
+                return Number::Bad;
+            }
+            Number::Value(value, next + 1)
+        }
+        Number::Bad => Number::Bad,
+    }
 }

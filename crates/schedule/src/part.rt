@@ -1,12 +1,12 @@
 // A part of the file with steps: a header, its count held to a limit, and as many step lines.
-ghost use mathlib.Core.Path.{_≡_};
+// What is answered is where the steps stand, or the part's first fault.
 ghost use Prim.Native.Nat.{_+_, _<_, _^_};
 ghost use Rattle.schedule.specs.Parts.{LastLf, PartIs};
-use crate::file::Fault;
+use crate::fault::Fault;
 use crate::header::header_at;
-use crate::number::Number;
 use crate::section::Lines;
 use crate::section::check_steps;
+use text::number::Number;
 
 // The fault; or the count, the place of the first step line and the place after the last.
 pub(crate) enum Part {
@@ -20,15 +20,15 @@ pub(crate) fn part_at(s: &[u8], at: usize, end: usize, word: &[u8], line: u32, l
     ensures { λ r. ⌜ PartIs (now (s .entry)) at (now (word .entry)) line left r ⌝ }
 {
     match header_at(s, at, end, word) {
-        Number::Value(k, a) => {
-            if left < k {
+        Number::Value(count, first) => {
+            if left < count {
                 return Part::Bad(Fault { number: 10, line });
             }
-            match check_steps(s, a, end, k) {
-                Lines::Good(m) => Part::Good(k, a, m),
-                Lines::Fault(i) => Part::Bad(Fault {
+            match check_steps(s, first, end, count) {
+                Lines::Good(next) => Part::Good(count, first, next),
+                Lines::Fault(broken) => Part::Bad(Fault {
                     number: 9,
-                    line: line + 1 + i,
+                    line: line + 1 + broken,
                 }),
             }
         }

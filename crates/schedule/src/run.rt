@@ -7,7 +7,7 @@ ghost use Rattle.rules.specs.Records.{groupOf};
 ghost use Rattle.schedule.specs.Run as runs;
 ghost use Rattle.schedule.specs.Parts.{RunReady, RanTo, BothReady, BothRan, FormGood, SoundRan};
 use crate::counts::Counts;
-use crate::file::Fault;
+use crate::fault::Fault;
 use crate::file::Places;
 use crate::file::form_of;
 use crate::reader;
@@ -16,8 +16,8 @@ use rules::group::Flags;
 use rules::group::Group;
 use rules::group::Halves;
 use rules::group::Words;
-use rules::step::step_sound;
 use rules::store::Store;
+use rules::take::step_sound;
 
 // What a file's run gives: its fault, and then no step was run; or no fault, the counts of its two sections, and the group at the end.
 pub struct Ran {

@@ -1,4 +1,5 @@
-// Lines, one after the other: where a file's last line ends, and a section's step lines. No step list is kept.
+// A section's step lines, one after the other. No step list is kept.
+// What is answered is where the lines end, or which is the first that breaks the form.
 ghost use mathlib.Core.Path.{_≡_};
 ghost use Rattle.schedule.specs.Line.{lineAt};
 ghost use Rattle.schedule.specs.Lines.{linesAt};
@@ -9,20 +10,6 @@ use crate::reader;
 pub(crate) enum Lines {
     Fault(u32),
     Good(usize),
-}
-
-// The place after the last LF of a file; 0 where it has none.
-pub(crate) fn last_end(s: &[u8]) -> usize
-    ensures { λ r. ⌜ LastLf (now (s .entry)) r ⌝ }
-{
-    let mut k = s.len();
-    while k > 0 {
-        if s[k - 1] == 10 {
-            return k;
-        }
-        k -= 1;
-    }
-    0
 }
 
 // The count step lines from a place on, in a file whose last LF stands before end.

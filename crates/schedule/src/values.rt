@@ -1,13 +1,15 @@
 // The value lines: a decimal and LF each, read into an array.
+// What is answered is what the lines hold, up to the first that breaks the form.
 ghost use mathlib.Core.Path.{_≡_};
 ghost use Prim.Native.Nat.{_≤_};
 ghost use Rattle.rules.specs.Limits.{greatestSize};
 ghost use Rattle.schedule.specs.Values.{valueAt};
 ghost use Rattle.schedule.specs.Lines.{linesAt};
 ghost use Rattle.schedule.specs.Parts.{LastLf, numberOf, valuesRead};
-use crate::number::Number;
+use crate::number::closed;
 use crate::number::decimal_at;
 use rules::group::Group;
+use text::number::Number;
 
 // The values of the first lines, how many lines were sound, and the place after the last of them.
 pub(crate) struct Values {
@@ -24,16 +26,8 @@ pub(crate) fn value_at(s: &[u8], at: usize, end: usize) -> Number
     if at >= end {
         return Number::Bad;
     }
-    match decimal_at(s, at) {
-        Number::Value(v, n) => {
-            if s[n] == 10 {
-                Number::Value(v, n + 1)
-            } else {
-                Number::Bad
-            }
-        }
-        Number::Bad => Number::Bad,
-    }
+    let number = decimal_at(s, at);
+    closed(s, number)
 }
 
 // The values of n lines from a place on; where a line is faulty, those before it.

@@ -6,20 +6,8 @@ use Rattle.schedule.proofs.ReadLaws.{opening-few, form-long, form-openi
 use Rattle.schedule.proofs.file.form_of.Statement.{statement}
 use Rattle.schedule.proofs.file.form_of.Tie as tie
 
-no-form-requires : tie.Need-no-form-requires
-no-form-requires c κs = search needs
-
 returns : tie.Need-returns
 returns c = form-long _ _ (c .before .if1 .taken) (c .no-form .ensures)
-
-last-end-requires : tie.Need-last-end-requires
-last-end-requires c κs = search needs
-
-read-opening-requires : tie.Need-read-opening-requires
-read-opening-requires c κs = search needs
-
-no-form-requires-2 : tie.Need-no-form-requires-2
-no-form-requires-2 c κs = search needs
 
 returns-2 : tie.Need-returns-2
 returns-2 c =
@@ -29,15 +17,6 @@ returns-2 c =
 read-sections-requires : tie.Need-read-sections-requires
 read-sections-requires c κs =
     (c .before .before .before .before .before .last-end .ensures, opening-few _ _ (c .before .before .before .before .read-opening .ensures) (c .before .if2 .left))
-
-enum-known-places : tie.Need-enum-known-places
-enum-known-places c = search needs
-
-enum-known-fault : tie.Need-enum-known-fault
-enum-known-fault c = search needs
-
-no-form-requires-3 : tie.Need-no-form-requires-3
-no-form-requires-3 c κs = search needs
 
 -- the opening's array has all its 16 places
 values-long : (c : tie.After-read-opening) → length (c .read-opening .result .values) ≡ 16
@@ -62,15 +41,15 @@ pub form-of-spec : {M : Type 1} → statement M
 form-of-spec =
     tie.close
     (tie.spec
-    no-form-requires
+    (λ c κs. search needs)
     returns
-    last-end-requires
-    read-opening-requires
-    no-form-requires-2
+    (λ c κs. search needs)
+    (λ c κs. search needs)
+    (λ c κs. search needs)
     returns-2
     read-sections-requires
-    enum-known-places
-    enum-known-fault
-    no-form-requires-3
+    (λ c. search needs)
+    (λ c. search needs)
+    (λ c κs. search needs)
     returns-3
     returns-4)

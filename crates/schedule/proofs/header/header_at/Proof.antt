@@ -5,12 +5,6 @@ use Rattle.schedule.proofs.ReadLaws.{header-missing, header-past, heade
 use Rattle.schedule.proofs.header.header_at.Statement.{statement}
 use Rattle.schedule.proofs.header.header_at.Tie as tie
 
-word-at-requires : tie.Need-word-at-requires
-word-at-requires c κs = search needs
-
-enum-known-n : tie.Need-enum-known-n
-enum-known-n c = search needs
-
 returns : tie.Need-returns
 returns c =
     header-late _ _ _ (c .before .before .before .before .word-at .ensures) (c .before .before .before .before .before .before .before .pre)
@@ -32,8 +26,8 @@ pub header-at-spec : {M : Type 1} → statement M
 header-at-spec =
     tie.close
     (tie.spec
-    word-at-requires
-    enum-known-n
+    (λ c κs. search needs)
+    (λ c. search needs)
     returns
     alone-at-requires
     enum-told

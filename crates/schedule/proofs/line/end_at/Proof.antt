@@ -8,12 +8,6 @@ use borrow.Author.Needs.{needs}
 use Rattle.schedule.proofs.line.end_at.Statement.{statement}
 use Rattle.schedule.proofs.line.end_at.Tie as tie
 
-shared-slice-read-b : tie.Need-shared-slice-read-b
-shared-slice-read-b c = search needs
-
-add-result : tie.Need-add-result
-add-result c = search needs
-
 returns : tie.Need-returns
 returns c = sym (end-place (end-plain _ _ _ (c .if1 .taken)))
 
@@ -23,26 +17,17 @@ returns-2 c = sym (no-place (end-uncut _ _ (c .before .if1 .left) (not-true _ (c
 returns-3 : tie.Need-returns-3
 returns-3 c = sym (no-place (end-other _ _ (c .before .before .if1 .left) (not-false _ (c .before .if2 .left)) (c .if3 .taken)))
 
-add-if4 : tie.Need-add-if4
-add-if4 c = search needs
-
 shared-slice-read-if4 : tie.Need-shared-slice-read-if4
 shared-slice-read-if4 c = ahead-in (ahead-past (c .before .before .before .before .before .pre) (c .before .if3 .left) (λ z. omega arith))
 
 returns-4 : tie.Need-returns-4
 returns-4 c = sym (no-place (end-no-x _ _ (not-false _ (c .before .before .before .if2 .left)) (c .before .before .if3 .left) (c .if4 .taken)))
 
-add-if5 : tie.Need-add-if5
-add-if5 c = search needs
-
 shared-slice-read-if5 : tie.Need-shared-slice-read-if5
 shared-slice-read-if5 c = let h = ahead-in (ahead-past (ahead-past (c .before .before .before .before .before .before .before .pre) (c .before .before .before .if3 .left) (λ z. omega arith)) (c .before .if4 .left) (λ z. omega arith)) in omega arith
 
 returns-5 : tie.Need-returns-5
 returns-5 c = sym (no-place (end-no-lf _ _ (not-false _ (c .before .before .before .before .before .if2 .left)) (c .before .before .before .before .if3 .left) (c .before .before .if4 .left) (c .if5 .taken)))
-
-add-result-2 : tie.Need-add-result-2
-add-result-2 c = search needs
 
 returns-6 : tie.Need-returns-6
 returns-6 c = sym (end-place (end-cut _ _ (not-false _ (c .before .before .before .before .before .if2 .left)) (c .before .before .before .before .if3 .left) (c .before .before .if4 .left) (c .if5 .left)))
@@ -51,16 +36,16 @@ pub end-at-spec : {M : Type 1} → statement M
 end-at-spec =
     tie.close
     (tie.spec
-    shared-slice-read-b
-    add-result
+    (λ c. search needs)
+    (λ c. search needs)
     returns
     returns-2
     returns-3
-    add-if4
+    (λ c. search needs)
     shared-slice-read-if4
     returns-4
-    add-if5
+    (λ c. search needs)
     shared-slice-read-if5
     returns-5
-    add-result-2
+    (λ c. search needs)
     returns-6)

@@ -8,9 +8,6 @@ use Rattle.schedule.proofs.line.known_line.Tie as tie
 shared-slice-read-letter : tie.Need-shared-slice-read-letter
 shared-slice-read-letter c = chain _ _ (c .before .before .pre) .here
 
-numbers-after-requires : tie.Need-numbers-after-requires
-numbers-after-requires c κs = search needs
-
 add-known-next : tie.Need-add-known-next
 add-known-next c = let h = chain _ _ (c .before .before .before .pre) .here in omega (arith, h)
 
@@ -25,9 +22,6 @@ known-next-requires-3 c κs = third-known _ _ (c .before .before .before .before
 
 shared-slice-read-cut : tie.Need-shared-slice-read-cut
 shared-slice-read-cut c = end-read _ _ (c .before .before .before .before .before .before .before .pre) (c .before .before .before .before .numbers-after .ensures) (c .before .before .before .known-next .ensures) (c .before .before .known-next2 .ensures) (c .before .known-next3 .ensures) .here
-
-step-of-requires : tie.Need-step-of-requires
-step-of-requires c κs = search needs
 
 add-next : tie.Need-add-next
 add-next c = let h = line-inside _ _ (c .before .before .before .before .before .before .before .before .before .pre) (c .before .before .before .before .before .before .numbers-after .ensures) (c .before .before .before .before .before .known-next .ensures) (c .before .before .before .before .known-next2 .ensures) (c .before .before .before .known-next3 .ensures) (c .if1 .taken) in omega (arith, h)
@@ -46,13 +40,13 @@ known-line-spec =
     tie.close
     (tie.spec
     shared-slice-read-letter
-    numbers-after-requires
+    (λ c κs. search needs)
     add-known-next
     known-next-requires
     known-next-requires-2
     known-next-requires-3
     shared-slice-read-cut
-    step-of-requires
+    (λ c κs. search needs)
     add-next
     add-next-2
     returns

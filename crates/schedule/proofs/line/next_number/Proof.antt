@@ -5,9 +5,6 @@ use borrow.Author.Needs.{needs}
 use Rattle.schedule.proofs.line.next_number.Statement.{statement}
 use Rattle.schedule.proofs.line.next_number.Tie as tie
 
-spaced-at-requires : tie.Need-spaced-at-requires
-spaced-at-requires c κs = search needs
-
 returns : tie.Need-returns
 returns c = c .spaced-at .ensures ∙ sym (next-wanted _ _ (c .before .if1 .taken))
 
@@ -15,4 +12,4 @@ returns-2 : tie.Need-returns-2
 returns-2 c = sym (next-none _ _ (c .if1 .left))
 
 pub next-number-spec : {M : Type 1} → statement M
-next-number-spec = tie.close (tie.spec spaced-at-requires returns returns-2)
+next-number-spec = tie.close (tie.spec (λ c κs. search needs) returns returns-2)

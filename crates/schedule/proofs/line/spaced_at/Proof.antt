@@ -7,12 +7,6 @@ use borrow.Author.Needs.{needs}
 use Rattle.schedule.proofs.line.spaced_at.Statement.{statement}
 use Rattle.schedule.proofs.line.spaced_at.Tie as tie
 
-shared-slice-read-if1 : tie.Need-shared-slice-read-if1
-shared-slice-read-if1 c = search needs
-
-add-decimal-at : tie.Need-add-decimal-at
-add-decimal-at c = search needs
-
 decimal-at-requires : tie.Need-decimal-at-requires
 decimal-at-requires c κs = ahead-past (c .before .before .before .pre) (c .if1 .taken) (λ z. omega arith)
 
@@ -24,4 +18,4 @@ returns-2 c = sym (spaced-not _ _ (c .if1 .left))
 
 pub spaced-at-spec : {M : Type 1} → statement M
 spaced-at-spec =
-    tie.close (tie.spec shared-slice-read-if1 add-decimal-at decimal-at-requires returns returns-2)
+    tie.close (tie.spec (λ c. search needs) (λ c. search needs) decimal-at-requires returns returns-2)

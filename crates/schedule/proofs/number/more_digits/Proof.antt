@@ -3,11 +3,11 @@
 use Prim.Native.Nat.{_≤_, _-_}
 use mathlib.Core.Path.{_≡_, refl, sym, _∙_}
 use native.Mathlib.Omega.{arith}
-use lib.ListN.{length, getD, drop}
+use lib.ListN.{length, drop}
 use denote.Ref.{now}
-use Rattle.schedule.specs.Number.{most, scan}
+use Rattle.text.specs.Number.{most, scan}
 use Rattle.schedule.specs.Parts.{Ahead}
-use Rattle.schedule.proofs.NumberLaws.{tested, digit-range, at-more, at-over, at-stop}
+use Rattle.text.proofs.NumberLaws.{Digit, digit-here, at-more, at-over, at-stop}
 use Rattle.schedule.proofs.AheadLaws.{ahead-digit}
 use Rattle.schedule.proofs.number.more_digits.Statement.{statement}
 use Rattle.schedule.proofs.number.more_digits.Tie as tie
@@ -33,17 +33,23 @@ mul-sum c = omega arith
 shared-slice-read-sum : tie.Need-shared-slice-read-sum Inv-loop μ-loop
 shared-slice-read-sum c = omega arith
 
+-- a digit stands where the loop goes on
+digit : (c : tie.Then1 Inv-loop μ-loop) → Digit (now (c .before .before .before .before .before .args .s)) (c .before .before .before .loop .i)
+digit c = digit-here _ _ (sym (c .before .is-digit .ensures) ∙ c .if1 .taken)
+
 sub-sum : tie.Need-sub-sum Inv-loop μ-loop
-sub-sum c = digit-range (getD (now (c .before .before .before .before .before .before .args .s)) (c .before .before .before .before .loop .i) 0) (tested refl (c .before .before .is-digit .ensures) (c .before .if1 .taken)) .0
+sub-sum c = digit (c .before) .low
 
 cast-sum : tie.Need-cast-sum Inv-loop μ-loop
-cast-sum c = omega (arith, digit-range (getD (now (c .before .before .before .before .before .before .args .s)) (c .before .before .before .before .loop .i) 0) (tested refl (c .before .before .is-digit .ensures) (c .before .if1 .taken)))
+cast-sum c = omega (arith, digit (c .before))
 
 add-sum : tie.Need-add-sum Inv-loop μ-loop
-add-sum c = omega (arith, digit-range (getD (now (c .before .before .before .before .before .before .args .s)) (c .before .before .before .before .loop .i) 0) (tested refl (c .before .before .is-digit .ensures) (c .before .if1 .taken)))
+add-sum c = omega (arith, digit (c .before))
 
 returns : tie.Need-returns Inv-loop μ-loop
-returns c = sym (c .before .before .before .before .before .loop .inv .2 ∙ at-over _ _ _ (omega arith) (tested refl (c .before .before .before .is-digit .ensures) (c .before .before .if1 .taken)) (c .if2 .taken))
+returns c =
+    let d = digit (c .before .before) in
+    sym (c .before .before .before .before .before .loop .inv .2 ∙ at-over _ _ _ (d .within) (d .is) (c .if2 .taken))
 
 add-i : tie.Need-add-i Inv-loop μ-loop
 add-i c = omega arith
@@ -52,13 +58,16 @@ loop-less : tie.Need-loop-less Inv-loop μ-loop
 loop-less c = omega arith
 
 loop-again : tie.Need-loop-again Inv-loop μ-loop
-loop-again c = (ahead-digit (c .before .before .before .before .before .loop .inv .0) (tested refl (c .before .before .before .is-digit .ensures) (c .before .before .if1 .taken)), c .if2 .left, c .before .before .before .before .before .loop .inv .2 ∙ at-more _ _ _ (omega arith) (tested refl (c .before .before .before .is-digit .ensures) (c .before .before .if1 .taken)) (c .if2 .left))
+loop-again c =
+    let d = digit (c .before .before) in
+    let h = c .before .before .before .before .before .loop .inv in
+    (ahead-digit (h .0) (d .is), c .if2 .left, h .2 ∙ at-more _ _ _ (d .within) (d .is) (c .if2 .left))
 
 cast-t14 : tie.Need-cast-t14 Inv-loop μ-loop
 cast-t14 c = omega arith
 
 returns-2 : tie.Need-returns-2 Inv-loop μ-loop
-returns-2 c = sym (c .before .before .before .loop .inv .2 ∙ at-stop _ _ _ (tested refl (c .before .is-digit .ensures) (c .if1 .left)))
+returns-2 c = sym (c .before .before .before .loop .inv .2 ∙ at-stop _ _ _ (sym (c .before .is-digit .ensures) ∙ c .if1 .left))
 
 pub more-digits-spec : {M : Type 1} → statement M
 more-digits-spec =

@@ -5,29 +5,11 @@ use Rattle.schedule.proofs.ReadLaws.{part-none, part-many, part-broken,
 use Rattle.schedule.proofs.part.part_at.Statement.{statement}
 use Rattle.schedule.proofs.part.part_at.Tie as tie
 
-header-at-requires : tie.Need-header-at-requires
-header-at-requires c κs = search needs
-
-enum-known-k : tie.Need-enum-known-k
-enum-known-k c = search needs
-
 returns : tie.Need-returns
-returns c = part-many _ _ _ _ _ (c .before .before .before .before .header-at .ensures) (c .before .before .k .given .1) (c .if1 .taken)
-
-check-steps-requires : tie.Need-check-steps-requires
-check-steps-requires c κs = search needs
-
-enum-known-m : tie.Need-enum-known-m
-enum-known-m c = search needs
-
-enum-known-i : tie.Need-enum-known-i
-enum-known-i c = search needs
-
-add-t17 : tie.Need-add-t17
-add-t17 c = search needs
+returns c = part-many _ _ _ _ _ (c .before .before .before .before .header-at .ensures) (c .before .before .count .given .1) (c .if1 .taken)
 
 add-t18 : tie.Need-add-t18
-add-t18 c = omega (arith, fault-below _ _ _ (c .before .before .before .check-steps .ensures) (c .before .i .given .1))
+add-t18 c = omega (arith, fault-below _ _ _ (c .before .before .before .check-steps .ensures) (c .before .broken .given .1))
 
 enum-told : tie.Need-enum-told
 enum-told c = search needs
@@ -35,14 +17,14 @@ enum-told c = search needs
 returns-2 : tie.Need-returns-2
 returns-2 c =
     part-good _ _ _ _ _ (c .before .before .before .before .before .before .before .before .header-at .ensures)
-    (c .before .before .before .before .before .before .k .given .1) (c .before .before .before .before .if1 .left)
-    (c .before .before .before .check-steps .ensures) (c .before .m .given .1)
+    (c .before .before .before .before .before .before .count .given .1) (c .before .before .before .before .if1 .left)
+    (c .before .before .before .check-steps .ensures) (c .before .next .given .1)
 
 returns-3 : tie.Need-returns-3
 returns-3 c =
     part-broken _ _ _ _ _ (c .before .before .before .before .before .before .before .before .header-at .ensures)
-    (c .before .before .before .before .before .before .k .given .1) (c .before .before .before .before .if1 .left)
-    (c .before .before .before .check-steps .ensures) (c .before .i .given .1)
+    (c .before .before .before .before .before .before .count .given .1) (c .before .before .before .before .if1 .left)
+    (c .before .before .before .check-steps .ensures) (c .before .broken .given .1)
 
 returns-4 : tie.Need-returns-4
 returns-4 c = part-none _ _ _ _ _ (c .before .before .header-at .ensures) (c .enum-told .given .1)
@@ -51,13 +33,13 @@ pub part-at-spec : {M : Type 1} → statement M
 part-at-spec =
     tie.close
     (tie.spec
-    header-at-requires
-    enum-known-k
+    (λ c κs. search needs)
+    (λ c. search needs)
     returns
-    check-steps-requires
-    enum-known-m
-    enum-known-i
-    add-t17
+    (λ c κs. search needs)
+    (λ c. search needs)
+    (λ c. search needs)
+    (λ c. search needs)
     add-t18
     enum-told
     returns-2

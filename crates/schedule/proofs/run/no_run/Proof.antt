@@ -7,16 +7,10 @@ use borrow.Author.Needs.{needs}
 use Rattle.schedule.proofs.run.no_run.Statement.{statement}
 use Rattle.schedule.proofs.run.no_run.Tie as tie
 
-none-requires : tie.Need-none-requires
-none-requires c κs = search needs
-
-none-requires-2 : tie.Need-none-requires-2
-none-requires-2 c κs = search needs
-
 returns : tie.Need-returns
 unfolding notRun blankGroup
 returns c =
     ap₂ (λ (w m : Counts). record { fault = c .before .before .args .fault; warmup = w; measured = m; group = blankGroup 0 }) (c .before .none .ensures) (c .none2 .ensures)
 
 pub no-run-spec : {M : Type 1} → statement M
-no-run-spec = tie.close (tie.spec none-requires none-requires-2 returns)
+no-run-spec = tie.close (tie.spec (λ c κs. search needs) (λ c κs. search needs) returns)

@@ -4,23 +4,11 @@ use borrow.Author.Needs.{needs}
 use Rattle.schedule.proofs.run.run.Statement.{statement}
 use Rattle.schedule.proofs.run.run.Tie as tie
 
-form-of-requires : tie.Need-form-of-requires
-form-of-requires c κs = search needs
-
-no-run-requires : tie.Need-no-run-requires
-no-run-requires c κs = search needs
-
 returns : tie.Need-returns
 returns c = run-bad _ _ (c .before .before .before .before .form-of .ensures) (c .before .if1 .taken) _ _ _ (c .no-run .ensures)
 
 run-sound-requires : tie.Need-run-sound-requires
 run-sound-requires c κs = run-form _ _ (c .before .before .before .before .before .before .before .form-of .ensures) (c .before .before .before .before .if1 .left)
-
-same-length : tie.Need-same-length
-same-length c = search needs
-
-same-length-2 : tie.Need-same-length-2
-same-length-2 c = search needs
 
 returns-2 : tie.Need-returns-2
 returns-2 c = run-good _ _ (c .before .before .before .before .before .before .before .before .before .before .before .before .form-of .ensures) (c .before .before .before .before .before .before .before .before .before .if1 .left) _ _ _ _ _ (c .before .before .before .before .run-sound .ensures)
@@ -29,10 +17,10 @@ pub run-spec : {M : Type 1} → statement M
 run-spec =
     tie.close
     (tie.spec
-    form-of-requires
-    no-run-requires
+    (λ c κs. search needs)
+    (λ c κs. search needs)
     returns
     run-sound-requires
-    same-length
-    same-length-2
+    (λ c. search needs)
+    (λ c. search needs)
     returns-2)

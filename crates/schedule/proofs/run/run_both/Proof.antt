@@ -10,19 +10,10 @@ run-steps-requires c κs = both-first _ _ _ _ _ (c .before .before .before .befo
 run-steps-requires-2 : tie.Need-run-steps-requires-2
 run-steps-requires-2 c κs = both-second _ _ _ _ _ (c .before .before .before .before .before .before .before .before .before .before .before .before .before .before .before .before .before .before .before .before .before .before .before .before .pre) _ _ _ _ (c .before .before .before .before .before .before .before .before .before .before .run-steps .ensures)
 
-none-requires : tie.Need-none-requires
-none-requires c κs = search needs
-
-same-length : tie.Need-same-length
-same-length c = search needs
-
-same-length-2 : tie.Need-same-length-2
-same-length-2 c = search needs
-
 returns : tie.Need-returns
 returns c = both-ran _ _ _ _ _ (c .before .before .before .before .before .before .before .before .before .before .before .before .before .before .before .before .before .before .before .before .before .before .before .before .before .before .before .before .before .before .pre) _ _ _ _ (c .before .before .before .before .before .before .before .before .before .before .before .before .before .before .before .before .run-steps .ensures) _ _ _ _ _ (c .none .ensures) (c .before .before .before .before .before .run-steps2 .ensures)
 
 pub run-both-spec : {M : Type 1} → statement M
 run-both-spec =
     tie.close
-    (tie.spec run-steps-requires run-steps-requires-2 none-requires same-length same-length-2 returns)
+    (tie.spec run-steps-requires run-steps-requires-2 (λ c κs. search needs) (λ c. search needs) (λ c. search needs) returns)

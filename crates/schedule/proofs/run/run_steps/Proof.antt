@@ -16,9 +16,6 @@ Inv-loop s at count n words₀ halves₀ bytes₀ flags₀ store₀ depths₀ co
 abbrev μ-loop : tie.MeasureT-loop
 μ-loop s at count n words₀ halves₀ bytes₀ flags₀ store₀ depths₀ counts₀ i₀ place₀ words halves bytes flags store depths counts i place = count - i
 
-none-requires : tie.Need-none-requires Inv-loop μ-loop
-none-requires c κs = search needs
-
 loop-holds : tie.Need-loop-holds Inv-loop μ-loop
 loop-holds c = counts-same (sym (c .none .ensures)) (going-none _ _ _ _ _ _ (c .before .before .before .before .pre))
 
@@ -55,7 +52,7 @@ run-steps-spec =
     (tie.spec
     Inv-loop
     μ-loop
-    none-requires
+    (λ c κs. search needs)
     loop-holds
     step-at-requires
     step-sound-requires

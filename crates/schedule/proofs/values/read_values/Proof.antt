@@ -19,9 +19,6 @@ loop-holds c = filling-none (c .before .pre .1) refl
 value-at-requires : tie.Need-value-at-requires Inv-loop μ-loop
 value-at-requires c κs = c .before .before .before .pre .0
 
-enum-known-v : tie.Need-enum-known-v Inv-loop μ-loop
-enum-known-v c = search needs
-
 mul-values : tie.Need-mul-values Inv-loop μ-loop
 mul-values c = omega (arith, c .before .before .before .before .before .loop .inv .few)
 
@@ -58,7 +55,7 @@ read-values-spec =
     μ-loop
     loop-holds
     value-at-requires
-    enum-known-v
+    (λ c. search needs)
     mul-values
     array-write-values
     enum-told

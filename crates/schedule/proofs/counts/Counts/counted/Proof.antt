@@ -8,39 +8,6 @@ use Rattle.schedule.proofs.counts.Counts.counted.Tie as tie
 enum-told : tie.Need-enum-told
 enum-told c = search needs
 
-add-t6 : tie.Need-add-t6
-add-t6 c = search needs
-
-add-t7 : tie.Need-add-t7
-add-t7 c = search needs
-
-enum-told-2 : tie.Need-enum-told-2
-enum-told-2 c = search needs
-
-add-t8 : tie.Need-add-t8
-add-t8 c = search needs
-
-add-t9 : tie.Need-add-t9
-add-t9 c = search needs
-
-enum-known-answer : tie.Need-enum-known-answer
-enum-known-answer c = search needs
-
-add-t10 : tie.Need-add-t10
-add-t10 c = search needs
-
-add-t11 : tie.Need-add-t11
-add-t11 c = search needs
-
-cast-t12 : tie.Need-cast-t12
-cast-t12 c = search needs
-
-add-t13 : tie.Need-add-t13
-add-t13 c = search needs
-
-cast-t14 : tie.Need-cast-t14
-cast-t14 c = search needs
-
 add-t15 : tie.Need-add-t15
 add-t15 c = record { fits = omega (arith, bool-one (c .before .before .before .before .before .answer .given .0 .1 .0), c .before .before .before .before .before .before .before .pre .decided) }
 
@@ -58,17 +25,17 @@ counted-spec =
     tie.close
     (tie.spec
     enum-told
-    add-t6
-    add-t7
-    enum-told-2
-    add-t8
-    add-t9
-    enum-known-answer
-    add-t10
-    add-t11
-    cast-t12
-    add-t13
-    cast-t14
+    (λ c. search needs)
+    (λ c. search needs)
+    (λ c. search needs)
+    (λ c. search needs)
+    (λ c. search needs)
+    (λ c. search needs)
+    (λ c. search needs)
+    (λ c. search needs)
+    (λ c. search needs)
+    (λ c. search needs)
+    (λ c. search needs)
     add-t15
     returns
     returns-2

@@ -1,0 +1,3 @@
+pub mod NumberLaws
+pub mod StandsLaws
+pub mod SpellLaws

@@ -1,0 +1,6 @@
+-- The meaning of text in lent bytes: what a reader must believe.
+
+-- decimals, read and spelled
+pub mod Number
+-- what the round trip speaks of
+pub mod Stands
