@@ -27,7 +27,7 @@ use Rattle.rules.specs.Depths.{datedIf, dated, damaged, tooDeep, refusal
 use Rattle.rules.proofs.BoolLaws.{or-left, or-right}
 use Rattle.rules.proofs.AllLaws.{all-each, all-every}
 use Rattle.rules.proofs.StoreLaws.{IsMessage, other}
-use Rattle.rules.proofs.SoundLaws.{Sound, sound-facts, facts-sound, Passed, PassedBy, by-passed, Taking, Fine, passed-fine}
+use Rattle.rules.proofs.SoundLaws.{Sound, sound-facts, facts-sound, Passed, PassedBy, by-passed, Taking, Fine, passed-fine, passed-of}
 
 -- ---- a sound group whose processes are not too deep
 
@@ -64,19 +64,7 @@ deep-passed g l d s e = by-passed (short d) (damaged g) (tooDeep d s) g l s e
 
 -- then none of the table without depths does
 pub passed-before : (g : Group) (l d : List ℕ) (s : Step) → DeepPassed g l d s → Passed g l s
-passed-before g l d s h =
-    record {
-      long = h .long;
-      sound = deep-sound g (h .sound);
-      known = h .known;
-      early = h .early;
-      up = h .up;
-      sent = h .sent;
-      named = h .named;
-      possible = h .possible;
-      not-many = h .not-many;
-      within-rounds = h .within-rounds;
-    }
+passed-before g l d s h = passed-of h (deep-sound g (h .sound))
 
 -- the process of a course is the one that takes the step
 takes-taker : (g : Group) (l : List ℕ) (s : Step) {i : ℕ} {x : Next} (t c : Bool)

@@ -1,5 +1,5 @@
 -- The laws of the column of depths: it and the records do not touch each other, and with the depths forgotten every record is as it was. Assumes nothing.
-use mathlib.Core.Path.{_≡_, refl, ap, _∙_}
+use mathlib.Core.Path.{_≡_, refl, ap, ap₂, _∙_}
 use mathlib.Core.Bool.{false}
 use mathlib.Core.List.{List, [], _∷_, _++_}
 use mathlib.Core.Logic.{_≢_}
@@ -9,7 +9,7 @@ use lib.ListN.{length, getD, set, take, replicate, length-set, length-append, le
 use lib.Seq.{getD-set-same, getD-set-other, getD-append-add}
 use Rattle.rules.specs.declared.group.Group.{Group}
 use Rattle.rules.specs.declared.process.Process.{Process}
-use Rattle.rules.specs.Records.{groupOf, put₃, put₄, processAt, withProcess, depthIn, depthAt, withDepth, Sized, blankGroup}
+use Rattle.rules.specs.Records.{processWith, groupOf, put₃, put₄, processAt, withProcess, depthIn, depthAt, withDepth, Sized, blankGroup}
 use Rattle.rules.specs.Start.{startedTo, fresh}
 use Rattle.rules.specs.DepthRun.{forgetting}
 use Rattle.rules.proofs.GroupLaws.{sized-started}
@@ -37,27 +37,27 @@ module _ {A : Type 0} where
   front-get (suc n) zero (x ∷ h) z d a b = refl
   front-get (suc n) (suc k) (x ∷ h) z d a b = front-get n k h z d (omega arith) (omega arith)
 
+-- a record goes by the two columns of the tallies where nothing else changes
+process-halves : (g : Group) (h : List ℕ) (j : ℕ) → getD h (j - 1) 0 ≡ getD (g .halves) (j - 1) 0 → getD h (16 + (j - 1)) 0 ≡ getD (g .halves) (16 + (j - 1)) 0
+    → processAt (groupOf (g .n) (g .words) h (g .bytes) (g .flags)) j ≡ processAt g j
+unfolding processAt
+process-halves g h j e f = ap₂ tallied e f
+  where
+    tallied : ℕ → ℕ → Process
+    tallied a b =
+        processWith (getD (g .words) (j - 1) 0) (getD (g .bytes) (j - 1) 0) (getD (g .bytes) (16 + (j - 1)) 0) (getD (g .bytes) (32 + (j - 1)) 0)
+        (getD (g .words) (16 + (j - 1)) 0) (getD (g .flags) (j - 1) false) (getD (g .flags) (16 + (j - 1)) false) (getD (g .words) (32 + (j - 1)) 0)
+        (getD (g .bytes) (48 + (j - 1)) 0) (getD (g .flags) (32 + (j - 1)) false) a b
+
 -- ---- depths and records
 
 module _ (g : Group) (i k : ℕ) where
   -- no record sees a depth
   pub process-deep : (j : ℕ) → j ≤ 16 → processAt (withDepth g i k) j ≡ processAt g j
-  unfolding processAt withDepth
-  process-deep j hi = λ t.
-      record {
-        first = getD (g .words) (j - 1) 0;
-        round = getD (g .bytes) (j - 1) 0;
-        phase = getD (g .bytes) (16 + (j - 1)) 0;
-        proposer = getD (g .bytes) (32 + (j - 1)) 0;
-        value = getD (g .words) (16 + (j - 1)) 0;
-        marked = getD (g .flags) (j - 1) false;
-        decided = getD (g .flags) (16 + (j - 1)) false;
-        decision = getD (g .words) (32 + (j - 1)) 0;
-        recoveries = getD (g .bytes) (48 + (j - 1)) 0;
-        up = getD (g .flags) (32 + (j - 1)) false;
-        estimates = getD-set-other (g .halves) (32 + (i - 1)) (j - 1) k 0 (omega arith) t;
-        suspicions = getD-set-other (g .halves) (32 + (i - 1)) (16 + (j - 1)) k 0 (omega arith) t;
-      }
+  unfolding withDepth
+  process-deep j hi =
+      process-halves g (set (g .halves) (32 + (i - 1)) k) j (getD-set-other (g .halves) (32 + (i - 1)) (j - 1) k 0 (omega arith))
+      (getD-set-other (g .halves) (32 + (i - 1)) (16 + (j - 1)) k 0 (omega arith))
 
   -- the depth that is put in comes out, every other one stays
   pub depth-put : Sized g → 1 ≤ i → i ≤ 16 → depthAt (withDepth g i k) i ≡ k
@@ -83,22 +83,10 @@ depth-with g i p j hi =
 
 -- the records are the same
 pub process-forgets : (g : Group) (j : ℕ) → Sized g → j ≤ 16 → processAt (forgetting g) j ≡ processAt g j
-unfolding processAt forgetting
-process-forgets g j s hi = λ t.
-    record {
-      first = getD (g .words) (j - 1) 0;
-      round = getD (g .bytes) (j - 1) 0;
-      phase = getD (g .bytes) (16 + (j - 1)) 0;
-      proposer = getD (g .bytes) (32 + (j - 1)) 0;
-      value = getD (g .words) (16 + (j - 1)) 0;
-      marked = getD (g .flags) (j - 1) false;
-      decided = getD (g .flags) (16 + (j - 1)) false;
-      decision = getD (g .words) (32 + (j - 1)) 0;
-      recoveries = getD (g .bytes) (48 + (j - 1)) 0;
-      up = getD (g .flags) (32 + (j - 1)) false;
-      estimates = front-get 32 (j - 1) (g .halves) (replicate 16 0) 0 (omega arith) (omega (arith, s .halves)) t;
-      suspicions = front-get 32 (16 + (j - 1)) (g .halves) (replicate 16 0) 0 (omega arith) (omega (arith, s .halves)) t;
-    }
+unfolding forgetting
+process-forgets g j s hi =
+    process-halves g (forgetting g .halves) j (front-get 32 (j - 1) (g .halves) (replicate 16 0) 0 (omega arith) (omega (arith, s .halves)))
+    (front-get 32 (16 + (j - 1)) (g .halves) (replicate 16 0) 0 (omega arith) (omega (arith, s .halves)))
 
 pub sized-forgets : (g : Group) → Sized g → Sized (forgetting g)
 unfolding forgetting

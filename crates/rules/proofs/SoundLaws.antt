@@ -417,13 +417,12 @@ by-passed t u w g l s e =
       within-rounds = row-zero (entersPast g l s) 7 0 (k .1) .0;
     }
 
-pub refusal-passed : (g : Group) (l : List ℕ) (s : Step) → refusal g l s ≡ 0 → Passed g l s
-unfolding refusal
-refusal-passed g l s e =
-    let h = by-passed false (damaged g) false g l s e in
+-- so no row of the table without depths does, where the group is not damaged
+pub passed-of : {t u w : Bool} {g : Group} {l : List ℕ} {s : Step} → PassedBy t u w g l s → damaged g ≡ false → Passed g l s
+passed-of h sound =
     record {
       long = h .long;
-      sound = h .sound;
+      sound = sound;
       known = h .known;
       early = h .early;
       up = h .up;
@@ -433,6 +432,10 @@ refusal-passed g l s e =
       not-many = h .not-many;
       within-rounds = h .within-rounds;
     }
+
+pub refusal-passed : (g : Group) (l : List ℕ) (s : Step) → refusal g l s ≡ 0 → Passed g l s
+unfolding refusal
+refusal-passed g l s e = let h = by-passed false (damaged g) false g l s e in passed-of h (h .sound)
 
 -- the first and the second number of a step that are of 1..n
 first-among : (n i : ℕ) (ms : List ℕ) → not (every (among n) (i ∷ ms)) ≡ false → (1 ≤ i) × (i ≤ n)
