@@ -2,5 +2,7 @@
 
 -- decimals, read and spelled
 pub mod Number
+-- a text put at a place
+pub mod Put
 -- what the round trip speaks of
 pub mod Stands

@@ -1,0 +1,4 @@
+pub mod PieceLaws
+pub mod FillLaws
+pub mod ReportLaws
+pub mod Unique
