@@ -71,22 +71,5 @@ returns c = fill-end (c .loop-test .left) (c .before .loop .inv)
 
 pub fill-spec : {M : Type 1} → statement M
 fill-spec =
-    tie.close
-    (tie.spec
-    Inv-loop
-    μ-loop
-    loop-holds
-    shared-slice-read-takes-number
-    (λ c κs. search needs)
-    mul-put-number
-    shared-slice-read-put-number
-    (λ c κs. search needs)
-    add-k
-    shared-slice-read-out
-    slice-write-out
-    add-place
-    add-i
-    loop-less
-    loop-again
-    same-length
-    returns)
+    let more = tie.spec Inv-loop μ-loop loop-holds shared-slice-read-takes-number (λ c κs. search needs) mul-put-number shared-slice-read-put-number in
+    tie.close (more (λ c κs. search needs) add-k shared-slice-read-out slice-write-out add-place add-i loop-less loop-again same-length returns)

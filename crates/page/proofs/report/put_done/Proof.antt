@@ -16,16 +16,5 @@ returns c =
 
 pub put-done-spec : {M : Type 1} → statement M
 put-done-spec =
-    tie.close
-    (tie.spec
-    (λ c. search needs)
-    (λ c κs. search needs)
-    (λ c. search needs)
-    (λ c κs. search needs)
-    (λ c. search needs)
-    (λ c. search needs)
-    (λ c. search needs)
-    (λ c κs. search needs)
-    (λ c κs. search needs)
-    (λ c. search needs)
-    returns)
+    let more = tie.spec (λ c. search needs) (λ c κs. search needs) (λ c. search needs) (λ c κs. search needs) (λ c. search needs) (λ c. search needs) in
+    tie.close (more (λ c. search needs) (λ c κs. search needs) (λ c κs. search needs) (λ c. search needs) returns)

@@ -48,17 +48,5 @@ returns c =
 
 pub put-processes-spec : {M : Type 1} → statement M
 put-processes-spec =
-    tie.close
-    (tie.spec
-    Inv-loop
-    μ-loop
-    (λ c. search needs)
-    loop-holds
-    add-i
-    (λ c κs. search needs)
-    (λ c κs. search needs)
-    put-process-requires
-    loop-less
-    loop-again
-    same-length
-    returns)
+    let more = tie.spec Inv-loop μ-loop (λ c. search needs) loop-holds add-i (λ c κs. search needs) (λ c κs. search needs) put-process-requires loop-less loop-again in
+    tie.close (more same-length returns)

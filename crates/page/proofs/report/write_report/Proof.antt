@@ -26,14 +26,5 @@ returns-2 c =
 
 pub write-report-spec : {M : Type 1} → statement M
 write-report-spec =
-    tie.close
-    (tie.spec
-    (λ c κs. search needs)
-    (λ c κs. search needs)
-    (λ c. search needs)
-    (λ c. search needs)
-    returns
-    put-done-requires
-    (λ c. search needs)
-    (λ c. search needs)
-    returns-2)
+    let more = tie.spec (λ c κs. search needs) (λ c κs. search needs) (λ c. search needs) (λ c. search needs) returns put-done-requires (λ c. search needs) in
+    tie.close (more (λ c. search needs) returns-2)

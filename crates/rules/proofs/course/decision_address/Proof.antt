@@ -53,13 +53,4 @@ returns-3 c =
 
 pub decision-address-spec : {M : Type 1} → statement M
 decision-address-spec =
-    tie.close
-    (tie.spec
-    (λ c κs. search needs)
-    returns
-    (λ c κs. search needs)
-    returns-2
-    cast-taker
-    cast-decision-slot
-    decision-slot-requires
-    returns-3)
+    tie.close (tie.spec (λ c κs. search needs) returns (λ c κs. search needs) returns-2 cast-taker cast-decision-slot decision-slot-requires returns-3)

@@ -70,14 +70,4 @@ returns-6 c =
 
 pub held-refusal-spec : {M : Type 1} → statement M
 held-refusal-spec =
-    tie.close
-    (tie.spec
-    (λ c κs. search needs)
-    returns
-    returns-2
-    returns-3
-    (λ c. search needs)
-    (λ c κs. search needs)
-    returns-4
-    returns-5
-    returns-6)
+    tie.close (tie.spec (λ c κs. search needs) returns returns-2 returns-3 (λ c. search needs) (λ c κs. search needs) returns-4 returns-5 returns-6)

@@ -65,16 +65,5 @@ returns-4 c =
 
 pub message-address-spec : {M : Type 1} → statement M
 message-address-spec =
-    tie.close
-    (tie.spec
-    (λ c κs. search needs)
-    returns
-    (λ c κs. search needs)
-    returns-2
-    (λ c. search needs)
-    returns-3
-    cast-taker
-    (λ c. search needs)
-    cast-slot-2
-    slot-requires
-    returns-4)
+    let more = tie.spec (λ c κs. search needs) returns (λ c κs. search needs) returns-2 (λ c. search needs) returns-3 cast-taker (λ c. search needs) cast-slot-2 in
+    tie.close (more slot-requires returns-4)

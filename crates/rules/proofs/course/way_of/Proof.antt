@@ -59,16 +59,5 @@ returns-2 c =
 
 pub way-of-spec : {M : Type 1} → statement M
 way-of-spec =
-    tie.close
-    (tie.spec
-    address-requires
-    (λ c. search needs)
-    (λ c. search needs)
-    mul-entry
-    shared-slice-read-entry
-    mul-depth
-    shared-slice-read-depth
-    take-out-requires
-    way-requires
-    returns
-    returns-2)
+    let more = tie.spec address-requires (λ c. search needs) (λ c. search needs) mul-entry shared-slice-read-entry mul-depth shared-slice-read-depth in
+    tie.close (more take-out-requires way-requires returns returns-2)

@@ -121,17 +121,4 @@ returns-3 c =
 
 pub damaged-spec : {M : Type 1} → statement M
 damaged-spec =
-    tie.close
-    (tie.spec
-    Inv-loop
-    μ-loop
-    returns
-    returns-2
-    loop-holds
-    add-i
-    take-out-requires
-    whole-requires
-    depth-of-requires
-    loop-less
-    loop-again
-    returns-3)
+    tie.close (tie.spec Inv-loop μ-loop returns returns-2 loop-holds add-i take-out-requires whole-requires depth-of-requires loop-less loop-again returns-3)

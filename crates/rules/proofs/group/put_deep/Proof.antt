@@ -12,12 +12,4 @@ returns c = λ n. ap (λ (g : Group). withDepth g (c .before .before .before .be
 
 pub put-deep-spec : {M : Type 1} → statement M
 put-deep-spec =
-    tie.close
-    (tie.spec
-    (λ c κs. search needs)
-    (λ c. search needs)
-    (λ c. search needs)
-    (λ c. search needs)
-    (λ c. search needs)
-    (λ c. search needs)
-    returns)
+    tie.close (tie.spec (λ c κs. search needs) (λ c. search needs) (λ c. search needs) (λ c. search needs) (λ c. search needs) (λ c. search needs) returns)

@@ -62,18 +62,5 @@ returns c = c .before .loop .inv .2 ∙ ap (startedTo (c .before .before .before
 
 pub fill-spec : {M : Type 1} → statement M
 fill-spec =
-    tie.close
-    (tie.spec
-    Inv-loop
-    μ-loop
-    loop-holds
-    add-i
-    cast-i
-    mul-fresh
-    shared-slice-read-fresh
-    (λ c κs. search needs)
-    put-back-requires
-    add-k
-    loop-less
-    loop-again
-    returns)
+    let more = tie.spec Inv-loop μ-loop loop-holds add-i cast-i mul-fresh shared-slice-read-fresh (λ c κs. search needs) put-back-requires add-k loop-less loop-again in
+    tie.close (more returns)

@@ -28,13 +28,4 @@ returns-4 c = c .before .before .before .before .step-sound .ensures
 
 pub step-on-spec : {M : Type 1} → statement M
 step-on-spec =
-    tie.close
-    (tie.spec
-    returns
-    returns-2
-    (λ c κs. search needs)
-    returns-3
-    step-sound-requires
-    (λ c. search needs)
-    (λ c. search needs)
-    returns-4)
+    tie.close (tie.spec returns returns-2 (λ c κs. search needs) returns-3 step-sound-requires (λ c. search needs) (λ c. search needs) returns-4)

@@ -30,19 +30,5 @@ returns-3 c = c .before .before .before .before .finish .ensures ∙ taken-way _
 
 pub step-sound-spec : {M : Type 1} → statement M
 step-sound-spec =
-    tie.close
-    (tie.spec
-    (λ c κs. search needs)
-    enum-told
-    (λ c. search needs)
-    (λ c. search needs)
-    finish-requires
-    (λ c. search needs)
-    (λ c. search needs)
-    returns
-    (λ c. search needs)
-    (λ c. search needs)
-    returns-2
-    (λ c. search needs)
-    (λ c. search needs)
-    returns-3)
+    let more = tie.spec (λ c κs. search needs) enum-told (λ c. search needs) (λ c. search needs) finish-requires (λ c. search needs) (λ c. search needs) returns in
+    tie.close (more (λ c. search needs) (λ c. search needs) returns-2 (λ c. search needs) (λ c. search needs) returns-3)

@@ -39,17 +39,5 @@ returns-4 c =
 
 pub form-of-spec : {M : Type 1} → statement M
 form-of-spec =
-    tie.close
-    (tie.spec
-    (λ c κs. search needs)
-    returns
-    (λ c κs. search needs)
-    (λ c κs. search needs)
-    (λ c κs. search needs)
-    returns-2
-    read-sections-requires
-    (λ c. search needs)
-    (λ c. search needs)
-    (λ c κs. search needs)
-    returns-3
-    returns-4)
+    let more = tie.spec (λ c κs. search needs) returns (λ c κs. search needs) (λ c κs. search needs) (λ c κs. search needs) returns-2 read-sections-requires in
+    tie.close (more (λ c. search needs) (λ c. search needs) (λ c κs. search needs) returns-3 returns-4)

@@ -36,25 +36,6 @@ returns-5 c = opening-none _ (c .before .before .before .header-at .ensures) _ (
 
 pub read-opening-spec : {M : Type 1} → statement M
 read-opening-spec =
-    tie.close
-    (tie.spec
-    (λ c. search needs)
-    (λ c κs. search needs)
-    (λ c. search needs)
-    (λ c κs. search needs)
-    returns
-    (λ c. search needs)
-    (λ c κs. search needs)
-    returns-2
-    (λ c. search needs)
-    (λ c κs. search needs)
-    (λ c. search needs)
-    (λ c. search needs)
-    (λ c. search needs)
-    (λ c κs. search needs)
-    returns-3
-    (λ c κs. search needs)
-    enum-told
-    (λ c κs. search needs)
-    returns-4
-    returns-5)
+    let more = tie.spec (λ c. search needs) (λ c κs. search needs) (λ c. search needs) (λ c κs. search needs) returns (λ c. search needs) (λ c κs. search needs) in
+    let more = more returns-2 (λ c. search needs) (λ c κs. search needs) (λ c. search needs) (λ c. search needs) (λ c. search needs) (λ c κs. search needs) returns-3 in
+    tie.close (more (λ c κs. search needs) enum-told (λ c κs. search needs) returns-4 returns-5)

@@ -60,24 +60,5 @@ returns-4 c = sections-none _ _ _ (c .before .before .before .part-at .ensures) 
 
 pub read-sections-spec : {M : Type 1} → statement M
 read-sections-spec =
-    tie.close
-    (tie.spec
-    (λ c. search needs)
-    (λ c. search needs)
-    (λ c κs. search needs)
-    (λ c. search needs)
-    add-line
-    add-line-2
-    sub-left
-    (λ c. search needs)
-    part-at-requires-2
-    (λ c. search needs)
-    add-t29
-    add-t30
-    add-t31
-    returns
-    (λ c. search needs)
-    (λ c. search needs)
-    returns-2
-    returns-3
-    returns-4)
+    let more = tie.spec (λ c. search needs) (λ c. search needs) (λ c κs. search needs) (λ c. search needs) add-line add-line-2 sub-left (λ c. search needs) in
+    tie.close (more part-at-requires-2 (λ c. search needs) add-t29 add-t30 add-t31 returns (λ c. search needs) (λ c. search needs) returns-2 returns-3 returns-4)

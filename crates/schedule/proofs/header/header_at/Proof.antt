@@ -24,12 +24,4 @@ returns-3 c = header-missing _ _ _ (c .before .before .word-at .ensures) (c .enu
 
 pub header-at-spec : {M : Type 1} → statement M
 header-at-spec =
-    tie.close
-    (tie.spec
-    (λ c κs. search needs)
-    (λ c. search needs)
-    returns
-    alone-at-requires
-    enum-told
-    returns-2
-    returns-3)
+    tie.close (tie.spec (λ c κs. search needs) (λ c. search needs) returns alone-at-requires enum-told returns-2 returns-3)

@@ -36,15 +36,4 @@ returns-2 c = free-all (c .before .loop .inv) (omega arith)
 
 pub last-end-spec : {M : Type 1} → statement M
 last-end-spec =
-    tie.close
-    (tie.spec
-    Inv-loop
-    μ-loop
-    loop-holds
-    sub-if1
-    shared-slice-read-if1
-    returns
-    sub-k
-    loop-less
-    loop-again
-    returns-2)
+    tie.close (tie.spec Inv-loop μ-loop loop-holds sub-if1 shared-slice-read-if1 returns sub-k loop-less loop-again returns-2)

@@ -35,14 +35,4 @@ returns-2 c = unseen-all (c .before .loop .inv) (c .loop-test .left)
 
 pub lf-ahead-spec : {M : Type 1} → statement M
 lf-ahead-spec =
-    tie.close
-    (tie.spec
-    Inv-loop
-    μ-loop
-    loop-holds
-    shared-slice-read-if1
-    returns
-    add-place
-    loop-less
-    loop-again
-    returns-2)
+    tie.close (tie.spec Inv-loop μ-loop loop-holds shared-slice-read-if1 returns add-place loop-less loop-again returns-2)

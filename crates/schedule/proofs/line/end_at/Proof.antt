@@ -34,18 +34,5 @@ returns-6 c = sym (end-place (end-cut _ _ (not-false _ (c .before .before .befor
 
 pub end-at-spec : {M : Type 1} → statement M
 end-at-spec =
-    tie.close
-    (tie.spec
-    (λ c. search needs)
-    (λ c. search needs)
-    returns
-    returns-2
-    returns-3
-    (λ c. search needs)
-    shared-slice-read-if4
-    returns-4
-    (λ c. search needs)
-    shared-slice-read-if5
-    returns-5
-    (λ c. search needs)
-    returns-6)
+    let more = tie.spec (λ c. search needs) (λ c. search needs) returns returns-2 returns-3 (λ c. search needs) shared-slice-read-if4 returns-4 (λ c. search needs) in
+    tie.close (more shared-slice-read-if5 returns-5 (λ c. search needs) returns-6)

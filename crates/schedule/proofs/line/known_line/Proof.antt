@@ -37,17 +37,5 @@ returns-2 c = line-read _ _ (c .before .before .before .before .before .before .
 
 pub known-line-spec : {M : Type 1} → statement M
 known-line-spec =
-    tie.close
-    (tie.spec
-    shared-slice-read-letter
-    (λ c κs. search needs)
-    add-known-next
-    known-next-requires
-    known-next-requires-2
-    known-next-requires-3
-    shared-slice-read-cut
-    (λ c κs. search needs)
-    add-next
-    add-next-2
-    returns
-    returns-2)
+    let more = tie.spec shared-slice-read-letter (λ c κs. search needs) add-known-next known-next-requires known-next-requires-2 known-next-requires-3 in
+    tie.close (more shared-slice-read-cut (λ c κs. search needs) add-next add-next-2 returns returns-2)

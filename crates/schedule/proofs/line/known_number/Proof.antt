@@ -69,23 +69,5 @@ returns c = underway-whole _ _ _ _ (c .before .before .before .loop .inv) (sym (
 
 pub known-number-spec : {M : Type 1} → statement M
 known-number-spec =
-    tie.close
-    (tie.spec
-    Inv-loop
-    μ-loop
-    shared-slice-read-value
-    sub-value
-    cast-value
-    add-next
-    loop-holds
-    shared-slice-read-is-digit
-    is-digit-requires
-    mul-value
-    shared-slice-read-value-2
-    sub-value-2
-    cast-value-2
-    add-value
-    add-next-2
-    loop-less
-    loop-again
-    returns)
+    let more = tie.spec Inv-loop μ-loop shared-slice-read-value sub-value cast-value add-next loop-holds shared-slice-read-is-digit is-digit-requires mul-value in
+    tie.close (more shared-slice-read-value-2 sub-value-2 cast-value-2 add-value add-next-2 loop-less loop-again returns)

@@ -38,24 +38,6 @@ returns-5 c = sym (broken-place (line-no-first _ _ refl (c .before .before .befo
 
 pub line-end-spec : {M : Type 1} → statement M
 line-end-spec =
-    tie.close
-    (tie.spec
-    (λ c. search needs)
-    (λ c κs. search needs)
-    returns
-    (λ c. search needs)
-    spaced-at-requires
-    (λ c. search needs)
-    next-number-requires
-    (λ c. search needs)
-    next-number-requires-2
-    (λ c. search needs)
-    (λ c κs. search needs)
-    end-at-requires
-    enum-told
-    (λ c. search needs)
-    (λ c. search needs)
-    returns-2
-    returns-3
-    returns-4
-    returns-5)
+    let more = tie.spec (λ c. search needs) (λ c κs. search needs) returns (λ c. search needs) spaced-at-requires (λ c. search needs) next-number-requires in
+    let more = more (λ c. search needs) next-number-requires-2 (λ c. search needs) (λ c κs. search needs) end-at-requires enum-told (λ c. search needs) in
+    tie.close (more (λ c. search needs) returns-2 returns-3 returns-4 returns-5)

@@ -42,14 +42,4 @@ returns-9 c = rw (ne-eqb _ 69 (c .match .rest .0 .0 .0 .0 .0 .0 .0 .1), ne-eqb _
 
 pub numbers-after-spec : {M : Type 1} → statement M
 numbers-after-spec =
-    tie.close
-    (tie.spec
-    returns
-    returns-2
-    returns-3
-    returns-4
-    returns-5
-    returns-6
-    returns-7
-    returns-8
-    returns-9)
+    tie.close (tie.spec returns returns-2 returns-3 returns-4 returns-5 returns-6 returns-7 returns-8 returns-9)

@@ -25,11 +25,4 @@ returns-3 c = line-taken _ _ (c .known-line .ensures)
 
 pub step-line-spec : {M : Type 1} → statement M
 step-line-spec =
-    tie.close
-    (tie.spec
-    (λ c κs. search needs)
-    returns
-    line-end-requires
-    returns-2
-    known-line-requires
-    returns-3)
+    tie.close (tie.spec (λ c κs. search needs) returns line-end-requires returns-2 known-line-requires returns-3)

@@ -38,5 +38,4 @@ returns-8 c = rw (ne-eqb _ 69 (c .match .rest .0 .0 .0 .0 .0 .0 .1), ne-eqb _ 83
 
 pub step-of-spec : {M : Type 1} → statement M
 step-of-spec =
-    tie.close
-    (tie.spec returns returns-2 returns-3 returns-4 returns-5 returns-6 returns-7 returns-8)
+    tie.close (tie.spec returns returns-2 returns-3 returns-4 returns-5 returns-6 returns-7 returns-8)

@@ -22,13 +22,4 @@ returns-4 c = sym (closed-none _ (c .enum-told .given .1))
 
 pub closed-spec : {M : Type 1} → statement M
 closed-spec =
-    tie.close
-    (tie.spec
-    (λ c. search needs)
-    returns
-    (λ c. search needs)
-    returns-2
-    (λ c. search needs)
-    enum-told
-    returns-3
-    returns-4)
+    tie.close (tie.spec (λ c. search needs) returns (λ c. search needs) returns-2 (λ c. search needs) enum-told returns-3 returns-4)

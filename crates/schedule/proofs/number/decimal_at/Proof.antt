@@ -45,21 +45,5 @@ returns-4 c = c .more-digits .ensures ∙ sym (number-more _ _ (first (c .before
 
 pub decimal-at-spec : {M : Type 1} → statement M
 decimal-at-spec =
-    tie.close
-    (tie.spec
-    (λ c. search needs)
-    (λ c κs. search needs)
-    returns
-    (λ c. search needs)
-    shared-slice-read-second
-    (λ c κs. search needs)
-    sub-t11
-    cast-t12
-    (λ c. search needs)
-    returns-2
-    returns-3
-    (λ c. search needs)
-    sub-more-digits
-    cast-more-digits
-    more-digits-requires
-    returns-4)
+    let more = tie.spec (λ c. search needs) (λ c κs. search needs) returns (λ c. search needs) shared-slice-read-second (λ c κs. search needs) sub-t11 cast-t12 in
+    tie.close (more (λ c. search needs) returns-2 returns-3 (λ c. search needs) sub-more-digits cast-more-digits more-digits-requires returns-4)

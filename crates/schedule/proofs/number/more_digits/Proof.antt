@@ -71,21 +71,5 @@ returns-2 c = sym (c .before .before .before .loop .inv .2 ∙ at-stop _ _ _ (sy
 
 pub more-digits-spec : {M : Type 1} → statement M
 more-digits-spec =
-    tie.close
-    (tie.spec
-    Inv-loop
-    μ-loop
-    loop-holds
-    shared-slice-read-is-digit
-    is-digit-requires
-    mul-sum
-    shared-slice-read-sum
-    sub-sum
-    cast-sum
-    add-sum
-    returns
-    add-i
-    loop-less
-    loop-again
-    cast-t14
-    returns-2)
+    let more = tie.spec Inv-loop μ-loop loop-holds shared-slice-read-is-digit is-digit-requires mul-sum shared-slice-read-sum sub-sum cast-sum add-sum returns add-i in
+    tie.close (more loop-less loop-again cast-t14 returns-2)

@@ -31,17 +31,5 @@ returns-4 c = part-none _ _ _ _ _ (c .before .before .header-at .ensures) (c .en
 
 pub part-at-spec : {M : Type 1} → statement M
 part-at-spec =
-    tie.close
-    (tie.spec
-    (λ c κs. search needs)
-    (λ c. search needs)
-    returns
-    (λ c κs. search needs)
-    (λ c. search needs)
-    (λ c. search needs)
-    (λ c. search needs)
-    add-t18
-    enum-told
-    returns-2
-    returns-3
-    returns-4)
+    let more = tie.spec (λ c κs. search needs) (λ c. search needs) returns (λ c κs. search needs) (λ c. search needs) (λ c. search needs) (λ c. search needs) add-t18 in
+    tie.close (more enum-told returns-2 returns-3 returns-4)

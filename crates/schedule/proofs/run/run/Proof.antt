@@ -15,12 +15,4 @@ returns-2 c = run-good _ _ (c .before .before .before .before .before .before .b
 
 pub run-spec : {M : Type 1} → statement M
 run-spec =
-    tie.close
-    (tie.spec
-    (λ c κs. search needs)
-    (λ c κs. search needs)
-    returns
-    run-sound-requires
-    (λ c. search needs)
-    (λ c. search needs)
-    returns-2)
+    tie.close (tie.spec (λ c κs. search needs) (λ c κs. search needs) returns run-sound-requires (λ c. search needs) (λ c. search needs) returns-2)

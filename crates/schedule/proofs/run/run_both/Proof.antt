@@ -15,5 +15,4 @@ returns c = both-ran _ _ _ _ _ (c .before .before .before .before .before .befor
 
 pub run-both-spec : {M : Type 1} → statement M
 run-both-spec =
-    tie.close
-    (tie.spec run-steps-requires run-steps-requires-2 (λ c κs. search needs) (λ c. search needs) (λ c. search needs) returns)
+    tie.close (tie.spec run-steps-requires run-steps-requires-2 (λ c κs. search needs) (λ c. search needs) (λ c. search needs) returns)

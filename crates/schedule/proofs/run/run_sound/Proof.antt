@@ -25,19 +25,5 @@ returns-2 c = sound-both _ _ _ _ (c .before .before .before .before .before .bef
 
 pub run-sound-spec : {M : Type 1} → statement M
 run-sound-spec =
-    tie.close
-    (tie.spec
-    (λ c. search needs)
-    slice-aggregate-start
-    (λ c κs. search needs)
-    (λ c κs. search needs)
-    (λ c κs. search needs)
-    (λ c κs. search needs)
-    (λ c κs. search needs)
-    (λ c. search needs)
-    (λ c. search needs)
-    returns
-    run-both-requires
-    (λ c. search needs)
-    (λ c. search needs)
-    returns-2)
+    let more = tie.spec (λ c. search needs) slice-aggregate-start (λ c κs. search needs) (λ c κs. search needs) (λ c κs. search needs) (λ c κs. search needs) in
+    tie.close (more (λ c κs. search needs) (λ c. search needs) (λ c. search needs) returns run-both-requires (λ c. search needs) (λ c. search needs) returns-2)

@@ -48,18 +48,5 @@ returns c = going-done _ _ _ _ _ _ _ _ _ _ _ _ (c .before .loop .inv) (c .loop-t
 
 pub run-steps-spec : {M : Type 1} → statement M
 run-steps-spec =
-    tie.close
-    (tie.spec
-    Inv-loop
-    μ-loop
-    (λ c κs. search needs)
-    loop-holds
-    step-at-requires
-    step-sound-requires
-    counted-requires
-    add-i
-    loop-less
-    loop-again
-    same-length
-    same-length-2
-    returns)
+    let more = tie.spec Inv-loop μ-loop (λ c κs. search needs) loop-holds step-at-requires step-sound-requires counted-requires add-i loop-less loop-again in
+    tie.close (more same-length same-length-2 returns)

@@ -38,15 +38,4 @@ returns-3 c = checking-done (c .before .loop .inv) (c .loop-test .left)
 
 pub check-steps-spec : {M : Type 1} → statement M
 check-steps-spec =
-    tie.close
-    (tie.spec
-    Inv-loop
-    μ-loop
-    loop-holds
-    returns
-    line-end-at-requires
-    returns-2
-    add-i
-    loop-less
-    loop-again
-    returns-3)
+    tie.close (tie.spec Inv-loop μ-loop loop-holds returns line-end-at-requires returns-2 add-i loop-less loop-again returns-3)

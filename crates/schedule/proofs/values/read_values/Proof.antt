@@ -49,18 +49,5 @@ returns-2 c = filling-done (c .before .loop .inv) (c .loop-test .left)
 
 pub read-values-spec : {M : Type 1} → statement M
 read-values-spec =
-    tie.close
-    (tie.spec
-    Inv-loop
-    μ-loop
-    loop-holds
-    value-at-requires
-    (λ c. search needs)
-    mul-values
-    array-write-values
-    enum-told
-    returns
-    add-i
-    loop-less
-    loop-again
-    returns-2)
+    let more = tie.spec Inv-loop μ-loop loop-holds value-at-requires (λ c. search needs) mul-values array-write-values enum-told returns add-i loop-less loop-again in
+    tie.close (more returns-2)

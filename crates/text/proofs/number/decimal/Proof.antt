@@ -35,15 +35,5 @@ returns-4 c = sym (number-zero _ _ (c .before .before .if2 .left) (sym (c .befor
 
 pub decimal-spec : {M : Type 1} → statement M
 decimal-spec =
-    tie.close
-    (tie.spec
-    (λ c κs. search needs)
-    returns
-    shared-slice-read-if2
-    (λ c κs. search needs)
-    returns-2
-    add-digit-at
-    (λ c κs. search needs)
-    returns-3
-    add-t8
-    returns-4)
+    let more = tie.spec (λ c κs. search needs) returns shared-slice-read-if2 (λ c κs. search needs) returns-2 add-digit-at (λ c κs. search needs) returns-3 add-t8 in
+    tie.close (more returns-4)

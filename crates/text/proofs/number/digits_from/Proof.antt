@@ -64,20 +64,5 @@ returns-2 c = sym (c .before .before .loop .inv .1 ∙ at-stop _ _ _ (sym (c .be
 
 pub digits-from-spec : {M : Type 1} → statement M
 digits-from-spec =
-    tie.close
-    (tie.spec
-    Inv-loop
-    μ-loop
-    loop-holds
-    digit-at-requires
-    shared-slice-read-digit
-    sub-digit
-    mul-total
-    cast-total
-    add-total
-    returns
-    add-place
-    loop-less
-    loop-again
-    cast-t12
-    returns-2)
+    let more = tie.spec Inv-loop μ-loop loop-holds digit-at-requires shared-slice-read-digit sub-digit mul-total cast-total add-total returns add-place loop-less in
+    tie.close (more loop-again cast-t12 returns-2)

@@ -70,19 +70,5 @@ returns-2 c =
 
 pub put-bytes-spec : {M : Type 1} → statement M
 put-bytes-spec =
-    tie.close
-    (tie.spec
-    Inv-loop
-    μ-loop
-    (λ c κs. search needs)
-    returns
-    loop-holds
-    shared-slice-read-out
-    add-out
-    slice-write-out
-    add-i
-    loop-less
-    loop-again
-    add-result
-    same-length
-    returns-2)
+    let more = tie.spec Inv-loop μ-loop (λ c κs. search needs) returns loop-holds shared-slice-read-out add-out slice-write-out add-i loop-less loop-again add-result in
+    tie.close (more same-length returns-2)

@@ -34,5 +34,4 @@ returns-2 c = c .take-out .ensures (c .before .before .before .before .before .b
 
 pub process-spec : {M : Type 1} → statement M
 process-spec =
-    tie.close
-    (tie.spec (λ c κs. search needs) (λ c κs. search needs) returns cast-take-out take-out-requires returns-2)
+    tie.close (tie.spec (λ c κs. search needs) (λ c κs. search needs) returns cast-take-out take-out-requires returns-2)

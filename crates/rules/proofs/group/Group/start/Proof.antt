@@ -81,15 +81,5 @@ returns-2 c = starting _ _ _ (sym (c .before .before .before .before .before .be
 
 pub start-spec : {M : Type 1} → statement M
 start-spec =
-    tie.close
-    (tie.spec
-    (λ c κs. search needs)
-    (λ c κs. search needs)
-    returns
-    fill-requires
-    shared-slice-read-begin
-    begin-requires
-    cast-t27
-    (λ c. search needs)
-    (λ c. search needs)
-    returns-2)
+    let more = tie.spec (λ c κs. search needs) (λ c κs. search needs) returns fill-requires shared-slice-read-begin begin-requires cast-t27 (λ c. search needs) in
+    tie.close (more (λ c. search needs) returns-2)

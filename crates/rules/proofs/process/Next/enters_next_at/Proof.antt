@@ -18,12 +18,4 @@ returns-2 c = rw (sym (c .before .meets .ensures) ∙ c .if1 .left)
 
 pub enters-next-at-spec : {M : Type 1} → statement M
 enters-next-at-spec =
-    tie.close
-    (tie.spec
-    (λ c κs. search needs)
-    (λ c. search needs)
-    (λ c κs. search needs)
-    (λ c κs. search needs)
-    (λ c κs. search needs)
-    returns
-    returns-2)
+    tie.close (tie.spec (λ c κs. search needs) (λ c. search needs) (λ c κs. search needs) (λ c κs. search needs) (λ c κs. search needs) returns returns-2)

@@ -42,5 +42,4 @@ returns-5 c =
 
 pub idle-e-spec : {M : Type 1} → statement M
 idle-e-spec =
-    tie.close
-    (tie.spec (λ c κs. search needs) returns returns-2 returns-3 returns-4 (λ c κs. search needs) returns-5)
+    tie.close (tie.spec (λ c κs. search needs) returns returns-2 returns-3 returns-4 (λ c κs. search needs) returns-5)

@@ -76,35 +76,7 @@ returns-8 c = rw (c .before .enum-told3 .given .1) (c .way-recover .ensures)
 
 pub last-way-spec : {M : Type 1} → statement M
 last-way-spec =
-    tie.close
-    (tie.spec
-    (λ c. search needs)
-    cast-way-e
-    cast-way-e-2
-    way-e-requires
-    (λ c. search needs)
-    cast-way-s
-    cast-way-s-2
-    way-s-requires
-    (λ c. search needs)
-    cast-way-f
-    cast-way-f-2
-    way-f-requires
-    (λ c. search needs)
-    (λ c κs. search needs)
-    (λ c. search needs)
-    (λ c κs. search needs)
-    enum-told
-    (λ c κs. search needs)
-    (λ c. search needs)
-    (λ c κs. search needs)
-    (λ c. search needs)
-    (λ c κs. search needs)
-    returns
-    returns-2
-    returns-3
-    returns-4
-    returns-5
-    returns-6
-    returns-7
-    returns-8)
+    let more = tie.spec (λ c. search needs) cast-way-e cast-way-e-2 way-e-requires (λ c. search needs) cast-way-s cast-way-s-2 way-s-requires (λ c. search needs) in
+    let more = more cast-way-f cast-way-f-2 way-f-requires (λ c. search needs) (λ c κs. search needs) (λ c. search needs) (λ c κs. search needs) enum-told in
+    let more = more (λ c κs. search needs) (λ c. search needs) (λ c κs. search needs) (λ c. search needs) (λ c κs. search needs) returns returns-2 returns-3 in
+    tie.close (more returns-4 returns-5 returns-6 returns-7 returns-8)

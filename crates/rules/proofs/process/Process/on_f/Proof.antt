@@ -19,11 +19,4 @@ returns c =
 
 pub on-f-spec : {M : Type 1} → statement M
 on-f-spec =
-    tie.close
-    (tie.spec
-    (λ c κs. search needs)
-    (λ c κs. search needs)
-    (λ c κs. search needs)
-    (λ c κs. search needs)
-    enters-next-at-requires
-    returns)
+    tie.close (tie.spec (λ c κs. search needs) (λ c κs. search needs) (λ c κs. search needs) (λ c κs. search needs) enters-next-at-requires returns)

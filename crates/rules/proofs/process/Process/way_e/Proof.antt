@@ -20,13 +20,5 @@ returns-2 c =
 
 pub way-e-spec : {M : Type 1} → statement M
 way-e-spec =
-    tie.close
-    (tie.spec
-    (λ c κs. search needs)
-    (λ c κs. search needs)
-    returns
-    (λ c κs. search needs)
-    (λ c κs. search needs)
-    (λ c κs. search needs)
-    (λ c κs. search needs)
-    returns-2)
+    let more = tie.spec (λ c κs. search needs) (λ c κs. search needs) returns (λ c κs. search needs) (λ c κs. search needs) (λ c κs. search needs) in
+    tie.close (more (λ c κs. search needs) returns-2)

@@ -29,14 +29,5 @@ returns-3 c =
 
 pub way-f-spec : {M : Type 1} → statement M
 way-f-spec =
-    tie.close
-    (tie.spec
-    (λ c κs. search needs)
-    (λ c κs. search needs)
-    returns
-    (λ c κs. search needs)
-    (λ c κs. search needs)
-    (λ c κs. search needs)
-    returns-2
-    (λ c κs. search needs)
-    returns-3)
+    let more = tie.spec (λ c κs. search needs) (λ c κs. search needs) returns (λ c κs. search needs) (λ c κs. search needs) (λ c κs. search needs) returns-2 in
+    tie.close (more (λ c κs. search needs) returns-3)

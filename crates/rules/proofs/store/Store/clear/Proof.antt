@@ -69,18 +69,5 @@ returns c = (whole (omega arith) (c .before .loop .inv .1), whole (omega arith) 
 
 pub clear-spec : {M : Type 1} → statement M
 clear-spec =
-    tie.close
-    (tie.spec
-    Inv-loop
-    μ-loop
-    loop-holds
-    mul-store
-    slice-write-store
-    mul-depths
-    slice-write-depths
-    add-at
-    loop-less
-    loop-again
-    same-length
-    same-length-2
-    returns)
+    let more = tie.spec Inv-loop μ-loop loop-holds mul-store slice-write-store mul-depths slice-write-depths add-at loop-less loop-again same-length same-length-2 in
+    tie.close (more returns)

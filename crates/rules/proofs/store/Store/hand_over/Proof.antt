@@ -22,13 +22,4 @@ returns-2 c = hands-spot _ _ _ _ _ (sym (c .before .before .before .before .befo
 
 pub hand-over-spec : {M : Type 1} → statement M
 hand-over-spec =
-    tie.close
-    (tie.spec
-    (λ c κs. search needs)
-    enum-told
-    (λ c. search needs)
-    write-requires
-    returns
-    (λ c. search needs)
-    (λ c. search needs)
-    returns-2)
+    tie.close (tie.spec (λ c κs. search needs) enum-told (λ c. search needs) write-requires returns (λ c. search needs) (λ c. search needs) returns-2)

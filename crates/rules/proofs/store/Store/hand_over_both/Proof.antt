@@ -16,5 +16,4 @@ returns c = hands-both (c .before .before .before .before .before .before .befor
 
 pub hand-over-both-spec : {M : Type 1} → statement M
 hand-over-both-spec =
-    tie.close
-    (tie.spec (λ c κs. search needs) (λ c κs. search needs) add-result (λ c. search needs) (λ c. search needs) returns)
+    tie.close (tie.spec (λ c κs. search needs) (λ c κs. search needs) add-result (λ c. search needs) (λ c. search needs) returns)
