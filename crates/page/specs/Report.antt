@@ -60,7 +60,7 @@ abbrev pub undecidedText : List ℕ
 undecidedText = 32 ∷ 45 ∷ 32 ∷ 35 ∷ 32 ∷ 45 ∷ 10 ∷ []
 
 -- "Process lines: number, up or down, round, phase, proposer, estimate value, decision or `-`." Request 2026-03: the recoveries
--- behind it. Request 2026-06: "Process lines gain a last field (after the recoveries): the decision's depth, or `-`".
+-- behind it. Request 2026-06: "Process lines gain a last field, the decision's depth or `-`."
 -- The line of process i with the record p and the depth k has three parts.
 abbrev pub statusPart : ℕ → Process → List ℕ
 statusPart i p = pick (p .up) (filled upText (i ∷ [])) (filled downText (i ∷ []))
@@ -86,7 +86,7 @@ unfoldable pub doneText : Ran → List ℕ
 doneText r =
     sectionLine warmupWord (r .warmup) ++ (sectionLine measuredWord (r .measured) ++ (processesLine (r .group .n) ++ processLines (r .group) (r .group .n)))
 
--- a faulty file's line "is the whole output"
+-- a faulty file's report is that one line
 unfoldable pub reportOf : Ran → List ℕ
 reportOf r = pick (eqb (r .fault .number) 0) (doneText r) (faultLine (r .fault))
 

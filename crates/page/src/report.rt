@@ -11,6 +11,7 @@ use crate::line::fill;
 use crate::line::fill_either;
 use rules::group::Group;
 use rules::process::Process;
+use rules::store::Store;
 use schedule::counts::Counts;
 use schedule::fault::Fault;
 use schedule::run::Ran;
@@ -118,8 +119,8 @@ pub(crate) fn put_done(out: &mut [u8], at: usize, ran: Ran) -> usize
 // What lies past it is as it was.
 pub fn write_report(
     file: &[u8],
-    store: &mut [u64],
-    depths: &mut [u16],
+    store: &mut [u64; Store::LENGTH],
+    depths: &mut [u16; Store::LENGTH],
     out: &mut [u8; Report::LONGEST],
 ) -> usize
     ensures { λ r. ⌜ reports.Reports (now (file .entry)) (now (store .entry)) (now (depths .entry)) (now (out .entry)) (now (store .exit)) (now (depths .exit)) (now (out .exit)) r ⌝ }

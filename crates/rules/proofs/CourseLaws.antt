@@ -26,8 +26,8 @@ use Rattle.rules.specs.Idle.{idle}
 use Rattle.rules.specs.Refusals.{row, every, short, strange, late, isRecover, down, unsent, misnamed, maySuspect, impossible, recoversPast, entersPast, refusalBy}
 use Rattle.rules.specs.Step.{Idles, Refuses, Takes, orIdle, unlessRefused, handOvers, sentBy, decidesNow}
 use Rattle.rules.specs.Step as base
-use Rattle.rules.specs.Depths.{deliveredDepth, depthAfter, datedBoth, damaged, tooDeep, refusal, outcome, course, deepened, datedBy, settled, stepped}
-use Rattle.rules.specs.Parts.{numberRows, unlessMissed, addressOf, heldRows, unlessPast, orPast, orImpossible, orUp, lastCourse, unlessHeld, heldCourse, Ready, Numbered, Handable, HandsOverBoth}
+use Rattle.rules.specs.Depths.{deliveredDepth, depthAfter, datedBoth, damaged, tooDeep, refusal, outcome, course, deepened, datedBy, settled, stepped, Ready}
+use Rattle.rules.specs.Parts.{numberRows, unlessMissed, addressOf, heldRows, unlessPast, orPast, orImpossible, orUp, lastCourse, unlessHeld, heldCourse, Numbered, Handable, HandsOverBoth}
 use Rattle.rules.proofs.RowLaws.{orElse, number-else, held-else, Delivered, delivered-zero, owned-zero, held-zero, among-in}
 use Rattle.rules.proofs.StepLaws.{up-yes, up-many, up-no}
 use Rattle.rules.proofs.SoundLaws.{sound-facts}

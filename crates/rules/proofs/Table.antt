@@ -16,10 +16,10 @@ use Rattle.rules.specs.Refusals.{row, allOf, every, short, miscounted, w
 use Rattle.rules.specs.Refusals.{misnamed, maySuspect, impossible, recoversPast, entersPast, startRefusalBy, startRefusal, refusalBy, refusal}
 use Rattle.rules.specs.Start.{fresh, startedTo, opened, begun, unlessRefusedStart, started}
 use Rattle.rules.specs.Step.{idles, orIdle, unlessRefused, course, handOvers, sentBy, decidesNow, settled, stepped}
-use Rattle.rules.specs.Run.{startState}
-use Rattle.rules.specs.Table.{sameSaid, looks, looksIn, allLook, allStand, goesOn, holdsOne, holdsAll, runAbove, oneDecides}
+use Rattle.rules.specs.Run.{startState, one, handedByCourse, handedBy}
+use Rattle.rules.specs.Table.{sameSaid, looks, looksIn, allLook, allStand, sameHanded, answered, goesOn, holdsOne, holdsAll, runAbove, oneDecides}
 use Rattle.rules.specs.Table.{oneEntersRound1, repeatIsIdle, suspectTwice, crashTwice, recoverWhileUp, refusedOfSixteen, seventeenth}
-use Rattle.rules.specs.Table.{round64, round63, fiveProcesses, relayedAgain, comesBack, comesBackFromACut, table}
+use Rattle.rules.specs.Table.{round64, round63, fiveProcesses, relayedAgain, pauseKeepsTallies, comesBack, comesBackFromACut, table}
 use Rattle.rules.specs.Limits.{among}
 
 -- the single statement
@@ -38,8 +38,8 @@ unfolding ones
     misnamed maySuspect impossible recoversPast entersPast startRefusalBy startRefusal refusalBy refusal
     fresh startedTo opened begun unlessRefusedStart started
     idles orIdle unlessRefused course handOvers sentBy decidesNow settled stepped
-    startState
-    sameSaid looks looksIn allLook allStand goesOn holdsOne holdsAll runAbove oneDecides
+    startState one handedByCourse handedBy
+    sameSaid looks looksIn allLook allStand sameHanded answered goesOn holdsOne holdsAll runAbove oneDecides
     oneEntersRound1 repeatIsIdle suspectTwice crashTwice recoverWhileUp refusedOfSixteen seventeenth
-    round64 round63 fiveProcesses relayedAgain comesBack comesBackFromACut table
+    round64 round63 fiveProcesses relayedAgain pauseKeepsTallies comesBack comesBackFromACut table
 table-holds = refl

@@ -23,10 +23,10 @@ use Rattle.rules.specs.Tally.{bitOf}
 use Rattle.rules.specs.Steps.{takerOf, delivers, entryIn}
 use Rattle.rules.specs.Idle.{idle, idleE, idleS, idleF}
 use Rattle.rules.specs.Step.{Course, Idles, Refuses, Takes}
-use Rattle.rules.specs.Depths.{deliveredDepth, raises, raised, depthAfter, datedAt, dated, tooDeep, course, settled, stepped}
+use Rattle.rules.specs.Depths.{deliveredDepth, raises, raised, depthAfter, datedAt, dated, tooDeep, course, settled, stepped, Ready}
 use Rattle.rules.proofs.CourseLaws.{held-course, taken-outcome}
 use Rattle.rules.proofs.DepthLaws.{course-takes}
-use Rattle.rules.specs.Parts.{Ready, numberRows, heldCourse, lifted, liftUnless, lifts, liftOf, spotOf, HandsOver, HandsOverBoth}
+use Rattle.rules.specs.Parts.{numberRows, heldCourse, lifted, liftUnless, lifts, liftOf, spotOf, HandsOver, HandsOverBoth}
 
 -- ---- which course a way has
 

@@ -89,7 +89,7 @@ forgetting g = groupOf (g .n) (g .words) (take third (g .halves) ++ replicate gr
 abbrev pub forgotten : DeepState → State
 forgotten a = record { group = forgetting (a .group); store = a .store }
 
--- "with the depths forgotten, the run is the run of before": its states, and what every step says
+-- with the depths forgotten, the run is the run without depths: its states, and what every step says
 abbrev pub DepthsChangeNothing : Type 0
 DepthsChangeNothing = EveryRun λ vs l d ss. forgotten (at vs l d ss) ≡ safety.at vs l ss
 
@@ -98,13 +98,13 @@ AnswersStay = EveryRun λ vs l d ss. answers (startState vs l d) ss ≡ run.answ
 
 -- ---- 11: the limits
 
--- "no stored depth exceeds 3,087 and no process depth 3,088"
+-- "In runs from a start no stored depth exceeds 3,087." And no depth of a process is above 3,088
 abbrev pub DepthsFit : Type 0
 DepthsFit = EveryRun λ vs l d ss.
     ((k : ℕ) → k < storeLength → messageDepth (at vs l d ss) k ≤ deepestMessage)
     × ((i : ℕ) → Of vs i → processDepth (at vs l d ss) i ≤ deepestProcess)
 
--- "so neither new refusal occurs there": not 14, and not 2 or 11 either
+-- so that neither row of 14 ever refuses, and not 2 or 11 either
 abbrev pub NeverFourteen : Type 0
 NeverFourteen = EveryRun λ vs l d ss. (s : Step)
     → (refusal (at vs l d ss .group) (at vs l d ss .store) (at vs l d ss .depths) s ≢ 14)
@@ -117,7 +117,7 @@ PastDepthsKept = EveryRun λ vs l d ss. (k : ℕ) → storeLength ≤ k → mess
 
 -- ---- 12: what is kept
 
--- "kept through crashes, pauses, recoveries": while a process is down, and when it recovers, its depth is the one that it had when it went down
+-- "0 at start and kept through crashes and pauses": while a process is down, and when it recovers, its depth is the one that it had when it went down
 abbrev pub DepthRecovery : Type 0
 DepthRecovery = EveryRun λ vs l d ss. (ts : List Step) (i : ℕ) → Of vs i → safety.DownThrough (safety.at vs l ss) ts i
     → (processDepth (after (at vs l d ss) ts) i ≡ processDepth (at vs l d ss) i)
@@ -133,7 +133,7 @@ abbrev pub CutKeepsDepth : Type 0
 CutKeepsDepth = EveryRun λ vs l d ss. (s : Step) (i : ℕ) → Of vs i
     → processDepth (next (at vs l d ss) (safety.cut s)) i ≡ processDepth (next (at vs l d ss) s) i
 
--- "the depth of a decided process is its decision's": it stays
+-- the depth of a decided process, which is its decision's, stays
 abbrev pub DecisionDepthStays : Type 0
 DecisionDepthStays = EveryRun λ vs l d ss. (ts : List Step) (i : ℕ) → Of vs i → decidedIn (at vs l d ss) i ≡ true
     → processDepth (after (at vs l d ss) ts) i ≡ processDepth (at vs l d ss) i
@@ -180,7 +180,7 @@ senderOf (Pause i) = 0
 senderOf (Crash i) = 0
 senderOf (Recover i) = 0
 
--- "each process's first applied delivery of an E is of process 1's": `took` says which processes have taken an E before
+-- "where every process takes process 1's E before any relay": its first applied delivery of an E is of process 1's. `took` says which processes have taken an E before
 unfoldable pub ledBy : (ℕ → Bool) → DeepState → List Step → Bool
 ledBy took a [] = true
 ledBy took a (s ∷ ss) =
@@ -190,7 +190,7 @@ ledBy took a (s ∷ ss) =
 abbrev pub led : DeepState → List Step → Bool
 led a ss = ledBy (λ i. false) a ss
 
--- "every process that decides by E decides at depth 2", and has that depth at the end: process i decides by the step between ts and us
+-- "So with n of 2 or more, without suspicions or cuts, .. and decides by E, all decide at 2." It has that depth at the end too: process i decides by the step between ts and us
 abbrev pub TwoSteps : Type 0
 TwoSteps = EveryRun λ vs l d ss. (ts us : List Step) (i j r : ℕ) (c : Bool) → 2 ≤ length vs
     → plain ss ≡ true → led (startState vs l d) ss ≡ true → ss ≡ ts ++ (DeliverE i j r c ∷ us)
@@ -205,8 +205,8 @@ pub record Link (vs l : List ℕ) (ts : List Step) (s : Step) : Type 0 where
   pub applied : base.stepped (safety.at vs l ts .group) (safety.at vs l ts .store) s .says .applied ≡ true
   pub not-idle : idle (safety.at vs l ts .group) s ≡ false
 
--- a chain of k deliveries of the run, in its order, the last of which is the step s right after the steps ts: "every delivered message after the first was first handed over by the
--- process that took the delivery before it, at that step or a later one". Its sender is that process, and its entry was 0, "not sent", before that delivery. No depth is looked at
+-- a chain of k deliveries of the run, in its order, the last of which is the step s right after the steps ts: every delivered message after the first was first handed over by the
+-- process that took the delivery before it, at that step or a later one. Its sender is that process, and its entry was 0, "not sent", before that delivery. No depth is looked at
 pub data Chain (vs l : List ℕ) : List Step → Step → ℕ → Type 0 where
   one : {ts : List Step} {s : Step} → Link vs l ts s → Chain vs l ts s 1
   more : {ts ws : List Step} {s t : Step} {k : ℕ} (us : List Step) → Chain vs l ts s k → ws ≡ ts ++ (s ∷ us) → Link vs l ws t
@@ -221,11 +221,11 @@ pub record Ends (vs l : List ℕ) (ss : List Step) (i k : ℕ) : Type 0 where
   pub chain : Chain vs l before last k
   pub taker : takerOf last ≡ i
 
--- m is the length of the longest one, "0 where there is none": a chain of that length exists, and none is longer
+-- m is the length of the longest one, 0 where there is none: a chain of that length exists, and none is longer
 abbrev pub Longest : List ℕ → List ℕ → List Step → ℕ → ℕ → Type 0
 Longest vs l ss i m = (m ≢ 0 → Ends vs l ss i m) × ((k : ℕ) → Ends vs l ss i k → k ≤ m)
 
--- "The depth of a process at a moment of a run is the length of the longest chain whose last delivery is to it"
+-- the depth of a process at a moment of a run is the length of the longest chain whose last delivery is to it
 abbrev pub DepthIsLongest : Type 0
 DepthIsLongest = EveryRun λ vs l d ss. (i : ℕ) → Of vs i → Longest vs l ss i (processDepth (at vs l d ss) i)
 

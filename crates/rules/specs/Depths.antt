@@ -4,9 +4,9 @@
 use mathlib.Core.Path.{_≡_}
 use mathlib.Core.Bool.{Bool, true, false, _&&_, _||_, not}
 use mathlib.Core.List.{List}
-use Prim.Native.Nat.{ℕ, zero, suc, _+_, max}
+use Prim.Native.Nat.{ℕ, zero, suc, _+_, _≤_, max}
 use lib.Dec.{eqb, leb, ltb}
-use lib.ListN.{getD, set}
+use lib.ListN.{length, getD, set}
 use Rattle.rules.specs.declared.group.Group.{Group}
 use Rattle.rules.specs.declared.process.Message.{Message}
 use Rattle.rules.specs.declared.process.Message.the-variants.{Nothing, E, S, F, Decision}
@@ -28,11 +28,11 @@ use Rattle.rules.specs.Step as base
 
 -- ---- the depth of a process
 
--- the depth of the delivered message in the second store d, "at the same places"
+-- "Message depths live in a second lent store of 3,088 numbers", each at the place of its message: the depth of the delivered message in the store d
 unfoldable pub deliveredDepth : List ℕ → Step → ℕ
 deliveredDepth d s = getD d (slotOf s) 0
 
--- "A delivery that is not idle raises the receiver's depth"; no other step does
+-- "a delivery to it that is not idle raises it"; no other step does
 unfoldable pub raises : Group → Step → Bool
 raises g s = delivers s && not (idle g s)
 
@@ -41,13 +41,13 @@ unfoldable pub raised : Bool → ℕ → ℕ → ℕ
 raised true m k = max k (m + 1)
 raised false m k = k
 
--- the depth of the process that takes the step, after it. "This holds for a cut one too": a cut is no less a delivery
+-- the depth of the process that takes the step, after it. A cut delivery is no less a delivery
 unfoldable pub depthAfter : Group → List ℕ → Step → ℕ
 depthAfter g d s = raised (raises g s) (deliveredDepth d s) (depthAt g (takerOf s))
 
 -- ---- the depth of a message
 
--- "A message first handed over (its entry was 0) gets the sender's depth after the step; later handings over keep the first depth."
+-- "A message first handed over, and a decision, get the process's depth after the step. Later handings over keep the first depth."
 unfoldable pub datedIf : Bool → ℕ → ℕ → List ℕ → List ℕ
 datedIf true at k d = set d at k
 datedIf false at k d = d
@@ -70,7 +70,7 @@ datedBoth i x k l d = dated i (x .second) k (handOver i (x .first) l) (dated i (
 
 -- ---- refusals
 
--- 2: "also for a process of 1..n whose depth is above 3,088"
+-- "2 also for a process depth above 3,088"
 unfoldable pub damaged : Group → Bool
 damaged g = table.damaged g || not (allOf (λ i. leb (depthAt g i) deepestProcess) (g .n))
 
@@ -78,11 +78,11 @@ damaged g = table.damaged g || not (allOf (λ i. leb (depthAt g i) deepestProces
 unfoldable pub tooDeep : List ℕ → Step → Bool
 tooDeep d s = delivers s && ltb deepestMessage (deliveredDepth d s)
 
--- "14 right after 11 .. where the second store is shorter than 3,088 .. and 14 right after the entry's 2"
+-- "14, right after 11, where the second store is too short, and right after the entry's 2, where the delivered message's depth is above 3,087"
 unfoldable pub refusal : Group → List ℕ → List ℕ → Step → ℕ
 refusal g l d s = refusalBy (short d) (damaged g) (tooDeep d s) g l s
 
--- "for start: 11, 14, 1"
+-- for start the first of the two
 unfoldable pub startRefusal : List ℕ → List ℕ → List ℕ → ℕ
 startRefusal vs l d = startRefusalBy (short d) vs l
 
@@ -98,7 +98,7 @@ pub record DeepOutcome : Type 0 where
 abbrev pub outcome : Group → List ℕ → List ℕ → Said → DeepOutcome
 outcome g l d a = record { group = g; store = l; depths = d; says = a }
 
--- "cleared by start (its entries past 3,088 are never touched)", and "Start's own E has 0"
+-- "cleared by start", and what lies past 3,088 is not touched; start's own E has the depth 0
 unfoldable pub opened : ℕ → List ℕ → List ℕ → List ℕ
 opened v l d = dated 1 (firstMessage v) 0 (cleared storeLength l) (cleared storeLength d)
 
@@ -132,6 +132,14 @@ settled g l d k c =
 
 unfoldable pub stepped : Group → List ℕ → List ℕ → Step → DeepOutcome
 stepped g l d s = settled g l d (depthAfter g d s) (course g l d s)
+
+-- ---- what the step that a run takes asks: `step_sound`, the one public function with a `requires`
+
+-- both stores are long, and the group is not damaged: 11, the short 14 and the group's 2 are ruled out
+pub record Ready (g : Group) (l d : List ℕ) : Type 0 where
+  pub long : storeLength ≤ length l
+  pub deep-long : storeLength ≤ length d
+  pub sound : damaged g ≡ false
 
 -- ---- the contracts of start and of step: what they return and what both stores then hold are just what is started, and stepped
 

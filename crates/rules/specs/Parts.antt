@@ -139,13 +139,7 @@ pub record HandsOverBoth (i : ℕ) (m m′ : Message) (k : ℕ) (l d l′ d′ :
 
 -- ---- what the functions ask
 
--- a step, once 11, the short 14 and the group's 2 are ruled out
-pub record Ready (g : Group) (l d : List ℕ) : Type 0 where
-  pub long : storeLength ≤ length l
-  pub deep-long : storeLength ≤ length d
-  pub sound : deep.damaged g ≡ false
-
--- a course, once 3 and 4 are ruled out too
+-- a course, once 11, the short 14, the group's 2, 3 and 4 are ruled out
 pub record Numbered (n : ℕ) (p : Process) (s : Step) : Type 0 where
   pub low : 1 ≤ n
   pub high : n ≤ greatestSize

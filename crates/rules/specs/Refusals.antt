@@ -116,11 +116,11 @@ entersPast g l (Pause i) = false
 entersPast g l (Crash i) = false
 entersPast g l (Recover i) = false
 
--- "Order for start: 11, 1." And with the row of request 2026-06, "for start: 11, 14, 1", by their tests
+-- "Order for start: 11, 1." With 14 "right after 11" by request 2026-06: the rows by their tests
 abbrev pub startRows : Bool → Bool → Bool → ℕ
 startRows shortStore shortDepths wrongCount = row shortStore 11 (row shortDepths 14 (row wrongCount 1 0))
 
--- whether the second store is short is told
+-- whether the second store is short is given as a truth value
 unfoldable pub startRefusalBy : Bool → List ℕ → List ℕ → ℕ
 startRefusalBy shortDepths vs l = startRows (short l) shortDepths (miscounted vs)
 
@@ -128,8 +128,8 @@ startRefusalBy shortDepths vs l = startRows (short l) shortDepths (miscounted vs
 unfoldable pub startRefusal : List ℕ → List ℕ → ℕ
 startRefusal vs l = startRefusalBy false vs l
 
--- "For steps: as listed from 11, without 1." And "13, after 7"; and with the two rows of request 2026-06, "14 right after 11" and "right after the entry's 2": whether the second store
--- is short, whether the group is damaged, and whether the delivered message is too deep, is told
+-- "For steps: as listed from 11, without 1." With 13 "after 7", and with 14 "right after 11" and "right after the entry's 2". Whether the second store is short, whether the group is
+-- damaged, and whether the delivered message is too deep, is given as a truth value
 unfoldable pub refusalBy : Bool → Bool → Bool → Group → List ℕ → Step → ℕ
 refusalBy shortDepths damage tooDeep g l s =
     row (short l) 11

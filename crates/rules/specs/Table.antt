@@ -11,9 +11,10 @@ use Rattle.rules.specs.declared.step.Step.{Step}
 use Rattle.rules.specs.declared.step.Step.the-variants.{DeliverE, DeliverS, DeliverF, DeliverDecision, Suspect, Pause, Crash, Recover}
 use Rattle.rules.specs.Limits.{storeLength}
 use Rattle.rules.specs.Records.{processAt}
+use Rattle.rules.specs.Store.{placeOf, entryFor}
 use Rattle.rules.specs.Answers.{Said, saysApplied, saysIdle, saysRefused}
 use Rattle.rules.specs.Step.{stepped}
-use Rattle.rules.specs.Run.{State, stateOf, startState}
+use Rattle.rules.specs.Run.{State, stateOf, startState, Handed, handedBy}
 
 -- ---- a run of the table
 
@@ -51,22 +52,31 @@ abbrev pub downAgain : ℕ → ℕ → ℕ → ℕ → ℕ → ℕ → Seen
 downAgain i r f q v k =
     record { process = i; up = false; round = r; phase = f; proposer = q; value = v; decided = false; decision = 0; recoveries = k }
 
--- a step, what it must say, and what it must leave a process: the one that takes it, or process 1 where there is none
-pub record Line : Type 0 where
-  pub step : Step
-  pub says : Said
-  pub leaves : Seen
-
-abbrev pub line : Step → Said → Seen → Line
-line s a x = record { step = s; says = a; leaves = x }
-
--- an entry that must stand in the store
+-- an entry that must stand in the store, or be handed over
 pub record Entry : Type 0 where
   pub place : ℕ
   pub entry : ℕ
 
 abbrev pub entryAt : ℕ → ℕ → Entry
 entryAt k e = record { place = k; entry = e }
+
+-- what is asked of the messages that a step hands over: nothing, or that they are just these, by their entries
+pub data Asked : Type 0 where
+  anything : Asked
+  just : List Entry → Asked
+
+-- a step, what it must say, what it must leave a process (the one that takes it, or process 1 where there is none), and what it must hand over
+pub record Line : Type 0 where
+  pub step : Step
+  pub says : Said
+  pub leaves : Seen
+  pub hands : Asked
+
+abbrev pub line : Step → Said → Seen → Line
+line s a x = record { step = s; says = a; leaves = x; hands = anything }
+
+abbrev pub handing : List Entry → Step → Said → Seen → Line
+handing es s a x = record { step = s; says = a; leaves = x; hands = just es }
 
 -- a run: its values and its lines; then processes and entries to look at when it has ended
 pub record Run : Type 0 where
@@ -105,12 +115,25 @@ unfoldable pub allStand : List ℕ → List Entry → Bool
 allStand l [] = true
 allStand l (e ∷ es) = eqb (getD l (e .place) 0) (e .entry) && allStand l es
 
--- from a on each line says and leaves what it must, and the run ends as it must
+-- the messages handed over are just those that have these entries
+unfoldable pub sameHanded : List Handed → List Entry → Bool
+sameHanded [] [] = true
+sameHanded [] (e ∷ es) = false
+sameHanded (h ∷ hs) [] = false
+sameHanded (h ∷ hs) (e ∷ es) =
+    (eqb (placeOf (h .sender) (h .message)) (e .place) && eqb (entryFor (h .sender) (h .message)) (e .entry)) && sameHanded hs es
+
+unfoldable pub answered : Asked → List Handed → Bool
+answered anything hs = true
+answered (just es) hs = sameHanded hs es
+
+-- from a on each line says, leaves and hands over what it must, and the run ends as it must
 unfoldable pub goesOn : State → List Line → List Seen → List Entry → Bool
 goesOn a [] xs es = allLook (a .group) xs && allStand (a .store) es
 goesOn a (x ∷ rest) xs es =
     let o = stepped (a .group) (a .store) (x .step) in
-    sameSaid (o .says) (x .says) && (looksIn (o .group) (x .leaves) && goesOn (stateOf o) rest xs es)
+    sameSaid (o .says) (x .says)
+    && (looksIn (o .group) (x .leaves) && (answered (x .hands) (handedBy a (x .step)) && goesOn (stateOf o) rest xs es))
 
 unfoldable pub holdsOne : Run → Bool
 holdsOne r = goesOn (startState (r .values) (replicate storeLength 0)) (r .lines) (r .processes) (r .entries)
@@ -123,6 +146,7 @@ holdsAll (r ∷ rs) = holdsOne r && holdsAll rs
 
 -- "The run above; its third measured step is refusal 6." Its first line is the WARMUP section, with sent 0 and decided 0;
 -- the four others are the MEASURED section: applied 3, refused 1, sent 3, decided 2. It ends with the three process lines of the report.
+-- "decisions the sender and the decided value": those of 2 and 3 stand at 3,073 and 3,074, and are 2 × 2^32 + 7 and 3 × 2^32 + 7.
 unfoldable pub runAbove : Run
 runAbove =
     record {
@@ -135,7 +159,7 @@ runAbove =
           ∷ line (DeliverDecision 3 2 false) (saysApplied 1 true) (decidedNow 3 0 1 3 5 7)
           ∷ [];
       processes = upNow 1 0 1 1 7 ∷ decidedNow 2 0 1 1 7 7 ∷ decidedNow 3 0 1 3 5 7 ∷ [];
-      entries = [];
+      entries = entryAt 3073 8_589_934_599 ∷ entryAt 3074 12_884_901_895 ∷ [];
     }
 
 -- "n = 1, value 0: `E 1 1 0` decides 0."
@@ -149,7 +173,7 @@ oneDecides =
     }
 
 -- "n = 1: `Q 1`, `S 1 1 0`, `F 1 1 0` enters round 1 and hands over E again."
--- The E of round 1 stands at (1×16 + 1−1)×3 + 0 = 48, and is 1 × 2^32 + 7.
+-- The E of round 1 stands at (1×16 + 1−1)×3 + 0 = 48, and is 1 × 2^32 + 7. "phase 1, no mark": in round 1 the process can suspect again.
 unfoldable pub oneEntersRound1 : Run
 oneEntersRound1 =
     record {
@@ -157,7 +181,8 @@ oneEntersRound1 =
       lines =
           line (Suspect 1 false) (saysApplied 1 false) (upNow 1 0 1 1 7)
           ∷ line (DeliverS 1 1 0 false) (saysApplied 1 false) (upNow 1 0 2 1 7)
-          ∷ line (DeliverF 1 1 0 false) (saysApplied 1 false) (upNow 1 1 1 1 7)
+          ∷ handing (entryAt 48 4_294_967_303 ∷ []) (DeliverF 1 1 0 false) (saysApplied 1 false) (upNow 1 1 1 1 7)
+          ∷ line (Suspect 1 false) (saysApplied 1 false) (upNow 1 1 1 1 7)
           ∷ [];
       processes = [];
       entries = entryAt 48 4_294_967_303 ∷ [];
@@ -176,7 +201,8 @@ repeatIsIdle =
       entries = [];
     }
 
--- "n = 3, each from a start: `Q 2` twice: second is 7."
+-- "n = 3, each from a start: `Q 2` twice: second is 7." "Suspicions have the sender as proposer and value 0":
+-- the S of 2 stands at (0×16 + 2−1)×3 + 1 = 4, and is 2 × 2^32.
 unfoldable pub suspectTwice : Run
 suspectTwice =
     record {
@@ -186,7 +212,7 @@ suspectTwice =
           ∷ line (Suspect 2 false) (saysRefused 7) (upNow 2 0 1 2 9)
           ∷ [];
       processes = [];
-      entries = [];
+      entries = entryAt 4 8_589_934_592 ∷ [];
     }
 
 -- "`C 2` twice: second is 5."
@@ -274,10 +300,25 @@ relayedAgain =
           line (DeliverE 2 1 0 false) (saysApplied 1 false) (upNow 2 0 1 1 7)
           ∷ line (Crash 2) (saysApplied 0 false) (downNow 2 0 1 1 7)
           ∷ line (Recover 2) (saysApplied 0 false) (backNow 2 0 1 1 7 1)
-          ∷ line (DeliverE 2 1 0 false) (saysApplied 0 false) (backNow 2 0 1 1 7 1)
+          ∷ handing (entryAt 3 4_294_967_303 ∷ []) (DeliverE 2 1 0 false) (saysApplied 0 false) (backNow 2 0 1 1 7 1)
           ∷ [];
       processes = [];
       entries = entryAt 3 4_294_967_303 ∷ [];
+    }
+
+-- "Down, everything kept": after a pause and a recovery the same E is idle, and nothing is relayed
+unfoldable pub pauseKeepsTallies : Run
+pauseKeepsTallies =
+    record {
+      values = 7 ∷ 9 ∷ 5 ∷ [];
+      lines =
+          line (DeliverE 2 1 0 false) (saysApplied 1 false) (upNow 2 0 1 1 7)
+          ∷ line (Pause 2) (saysApplied 0 false) (downNow 2 0 1 1 7)
+          ∷ line (Recover 2) (saysApplied 0 false) (backNow 2 0 1 1 7 1)
+          ∷ handing [] (DeliverE 2 1 0 false) saysIdle (backNow 2 0 1 1 7 1)
+          ∷ [];
+      processes = [];
+      entries = [];
     }
 
 -- Request 2026-03, "one more at each applied recover": after a pause and after a crash; a recover of the process that is up counts nothing
@@ -324,6 +365,7 @@ table =
     ∷ round63
     ∷ fiveProcesses
     ∷ relayedAgain
+    ∷ pauseKeepsTallies
     ∷ comesBack
     ∷ comesBackFromACut
     ∷ []

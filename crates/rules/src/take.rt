@@ -72,7 +72,8 @@ pub(crate) fn finish(
     applied
 }
 
-// One step of a group that is not damaged over stores that are not short.
+// One step of a group that is not damaged over stores that are not short: the one public function that asks something of its caller.
+// It is for a run that has proved it of its states; everybody else has `step_on` and `Group::step`.
 pub fn step_sound(
     n: u8,
     words: &mut Words,
@@ -83,7 +84,7 @@ pub fn step_sound(
     depths: &mut [u16],
     step: Step,
 ) -> Answer
-    requires { ⌜ parts.Ready (groupOf n (now words) (now halves) (now bytes) (now flags)) (now store) (now depths) ⌝ }
+    requires { ⌜ deep.Ready (groupOf n (now words) (now halves) (now bytes) (now flags)) (now store) (now depths) ⌝ }
     ensures { λ r. ⌜ deep.outcome (groupOf n (now (words .exit)) (now (halves .exit)) (now (bytes .exit)) (now (flags .exit))) (now (store .exit)) (now (depths .exit)) (said r) ≡ deep.stepped (groupOf n (now (words .entry)) (now (halves .entry)) (now (bytes .entry)) (now (flags .entry))) (now (store .entry)) (now (depths .entry)) step ⌝ }
 {
     let way = course::way_of(n, words, halves, bytes, flags, store, depths, step);

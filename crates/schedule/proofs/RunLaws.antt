@@ -14,7 +14,7 @@ use Rattle.rules.specs.Step.{sentBy}
 use Rattle.rules.specs.Step as base
 use Rattle.rules.specs.Depths.{DeepOutcome, outcome, damaged, course, settled, stepped}
 use Rattle.rules.specs.DepthRun.{DeepState, stateOf, next, after, answers}
-use Rattle.rules.specs.Parts.{Ready}
+use Rattle.rules.specs.Depths.{Ready}
 use Rattle.rules.specs.declared.group.Group.{Group}
 use Rattle.rules.specs.declared.process.Message.{Message}
 use Rattle.rules.specs.declared.process.Message.the-variants.{Nothing, E, S, F, Decision}

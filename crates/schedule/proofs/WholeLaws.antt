@@ -14,7 +14,7 @@ use Rattle.rules.specs.Refusals.{row, short, miscounted, startRefusalBy, refusa
 use Rattle.rules.specs.Answers.{Said, saysRefused}
 use Rattle.rules.specs.Depths.{DeepOutcome, outcome, damaged, refusal, startRefusal, started, stepped}
 use Rattle.rules.specs.DepthRun.{DeepState, stateOf, startState, next, after, answers}
-use Rattle.rules.specs.Parts.{Ready}
+use Rattle.rules.specs.Depths.{Ready}
 use Rattle.rules.specs.declared.group.Group.{Group}
 use Rattle.rules.specs.declared.step.Step.{Step}
 use Rattle.rules.proofs.BoolLaws.{or-left, or-right}

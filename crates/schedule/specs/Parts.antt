@@ -9,7 +9,7 @@ use lib.ListN.{length, getD, take}
 use Rattle.rules.specs.Limits.{greatestSize}
 use Rattle.rules.specs.Records.{Sized}
 use Rattle.rules.specs.DepthRun.{DeepState, after}
-use Rattle.rules.specs.Parts.{Ready}
+use Rattle.rules.specs.Depths.{Ready}
 use Rattle.rules.specs.declared.group.Group.{Group}
 use Rattle.rules.specs.declared.step.Step.{Step}
 use Rattle.schedule.specs.Limits.{mostSteps}

@@ -27,8 +27,8 @@ use Rattle.rules.specs.Refusals as table
 use Rattle.rules.specs.Start.{firstMessage, begun}
 use Rattle.rules.specs.Step.{idles, orIdle, unlessRefused, handOvers, sentBy, decidesNow}
 use Rattle.rules.specs.Step as base
-use Rattle.rules.specs.Parts.{numberRows, Ready}
-use Rattle.rules.specs.Depths.{deliveredDepth, raises, raised, depthAfter, dated, datedBoth, damaged, tooDeep, refusal, opened, unlessRefusedStart, startRefusal, started, course, deepened, datedBy, settled, stepped}
+use Rattle.rules.specs.Parts.{numberRows}
+use Rattle.rules.specs.Depths.{deliveredDepth, raises, raised, depthAfter, dated, datedBoth, damaged, tooDeep, refusal, opened, unlessRefusedStart, startRefusal, started, course, deepened, datedBy, settled, stepped, Ready}
 use Rattle.rules.specs.Run.{State}
 use Rattle.rules.specs.Run as run
 use Rattle.rules.specs.Safety as safety
