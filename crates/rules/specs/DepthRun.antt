@@ -48,7 +48,7 @@ unfoldable pub answers : DeepState → List Step → List Said
 answers a [] = []
 answers a (s ∷ ss) = stepped (a .group) (a .store) (a .depths) s .says ∷ answers (next a s) ss
 
--- 1 to 16 first values, each below 2^32, and any two stores of at least 3,088 numbers
+-- 1 to 16 first values, each one that a value can be, and any two stores of at least 3,088 numbers
 pub record DeepBegins (vs l d : List ℕ) : Type 0 where
   pub begins : Begins vs l
   pub long : storeLength ≤ length d

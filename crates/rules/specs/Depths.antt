@@ -1,6 +1,6 @@
--- Request 2026-06: the depths of processes and messages, which count communication steps, laid over the rules of before. Assumes nothing.
+-- Request 2026-06: the depths of processes and messages, which count communication steps, laid over the rules without them. Assumes nothing.
 -- A step is refused by the table with the rows of the request; its course, its records, its messages and its counts are those of `Step`, and the depths stand beside them. So with the
--- depths forgotten the run is the run of before: specs/DepthRun.antt states it.
+-- depths forgotten the run is the run without depths: specs/DepthRun.antt states it.
 use mathlib.Core.Path.{_≡_}
 use mathlib.Core.Bool.{Bool, true, false, _&&_, _||_, not}
 use mathlib.Core.List.{List}
@@ -125,7 +125,7 @@ datedBy k Idles l d = d
 datedBy k (Refuses j) l d = d
 datedBy k (Takes i x) l d = datedBoth i x k l d
 
--- the outcome of a course, where the process that takes it then has the depth k: that of before, and the depths
+-- the outcome of a course, where the process that takes it then has the depth k: that without depths, and the depths
 unfoldable pub settled : Group → List ℕ → List ℕ → ℕ → Course → DeepOutcome
 settled g l d k c =
     outcome (deepened k c (base.settled g l c .group)) (base.settled g l c .store) (datedBy k c l d) (base.settled g l c .says)

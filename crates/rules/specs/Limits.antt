@@ -1,6 +1,6 @@
 -- Document 01, "Numbers": the limits, the majority, the coordinator. Assumes nothing.
 use mathlib.Core.Bool.{Bool, _&&_}
-use Prim.Native.Nat.{ℕ, _+_, _/_, _%_}
+use Prim.Native.Nat.{ℕ, _+_, _/_, _%_, _^_}
 use lib.Dec.{leb, ltb}
 
 -- "Processes 1 to n, n from 1 to 16."
@@ -14,6 +14,10 @@ among n m = leb 1 m && leb m n
 -- "Rounds 0 to 63."
 abbrev pub lastRound : ℕ
 lastRound = 63
+
+-- "Values 0 to 4,294,967,295.": so many there are
+abbrev pub values : ℕ
+values = 2 ^ 32
 
 -- Request 2026-03: the most recoveries that a process can have
 abbrev pub mostRecoveries : ℕ

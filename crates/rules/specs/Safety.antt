@@ -4,7 +4,7 @@ use mathlib.Core.Path.{_≡_}
 use mathlib.Core.Bool.{Bool, true, false, _&&_, not}
 use mathlib.Core.List.{List, [], _∷_}
 use mathlib.Core.Logic.{_↔_, _≢_}
-use Prim.Native.Nat.{ℕ, _+_, _-_, _^_, _≤_, _<_}
+use Prim.Native.Nat.{ℕ, _+_, _-_, _≤_, _<_}
 use lib.Count.{ones}
 use lib.Dec.{eqb}
 use lib.ListN.{length, getD}
@@ -12,7 +12,7 @@ use Rattle.rules.specs.declared.process.Process.{Process}
 use Rattle.rules.specs.declared.process.Message.the-variants.{E, S, F, Decision}
 use Rattle.rules.specs.declared.step.Step.{Step}
 use Rattle.rules.specs.declared.step.Step.the-variants.{DeliverE, DeliverS, DeliverF, DeliverDecision, Suspect, Pause, Crash, Recover}
-use Rattle.rules.specs.Limits.{greatestSize, mostRecoveries, tooMany, storeLength, majority}
+use Rattle.rules.specs.Limits.{greatestSize, values, mostRecoveries, tooMany, storeLength, majority}
 use Rattle.rules.specs.Tally.{holds, count, bitOf}
 use Rattle.rules.specs.Records.{Stored, stored, processAt, blank}
 use Rattle.rules.specs.Store.{slot, kindE, kindS, kindF, proposerOf, sentIn}
@@ -24,11 +24,11 @@ use Rattle.rules.specs.Run.{State, startState, next, after, answers, Han
 
 -- ---- runs
 
--- 1 to 16 first values, each below 2^32, and any store of at least 3,088 entries
+-- 1 to 16 first values, each one that a value can be, and any store of at least 3,088 entries
 pub record Begins (vs l : List ℕ) : Type 0 where
   pub some : 1 ≤ length vs
   pub few : length vs ≤ greatestSize
-  pub small : (i : ℕ) → i < length vs → getD vs i 0 < 2 ^ 32
+  pub small : (i : ℕ) → i < length vs → getD vs i 0 < values
   pub long : storeLength ≤ length l
 
 -- the state after the start and the steps ss: every state of a run is one of these

@@ -1,12 +1,12 @@
 -- Document 01, "Records and the message store": the places of the store, its entries, and handing over. Assumes nothing.
 use mathlib.Core.Bool.{Bool, true, false}
 use mathlib.Core.List.{List, [], _∷_, _++_}
-use Prim.Native.Nat.{ℕ, zero, suc, _+_, _-_, _*_, _/_, _%_, _^_}
+use Prim.Native.Nat.{ℕ, zero, suc, _+_, _-_, _*_, _/_, _%_}
 use lib.Dec.{eqb}
 use lib.ListN.{getD, set, drop, replicate}
 use Rattle.rules.specs.declared.process.Message.{Message}
 use Rattle.rules.specs.declared.process.Message.the-variants.{Nothing, E, S, F, Decision}
-use Rattle.rules.specs.Limits.{greatestSize, storeLength}
+use Rattle.rules.specs.Limits.{greatestSize, values, storeLength}
 use Rattle.rules.specs.Tally.{bitOf}
 
 -- the kinds of messages that have a round
@@ -29,13 +29,13 @@ decisionSlot p = storeLength - greatestSize + (p - 1)
 
 -- "Otherwise the entry is proposer × 2^32 + value."
 abbrev pub entryOf : ℕ → ℕ → ℕ
-entryOf proposer value = proposer * 2 ^ 32 + value
+entryOf proposer value = proposer * values + value
 
 abbrev pub proposerOf : ℕ → ℕ
-proposerOf e = e / 2 ^ 32
+proposerOf e = e / values
 
 abbrev pub valueOf : ℕ → ℕ
-valueOf e = e % 2 ^ 32
+valueOf e = e % values
 
 -- where a message of process i stands
 unfoldable pub placeOf : ℕ → Message → ℕ

@@ -11,6 +11,7 @@ ghost use Rattle.rules.specs.Parts as parts;
 ghost use Rattle.rules.specs.Tally.{bitOf};
 use crate::group::Group;
 use crate::process::Message;
+use crate::process::Process;
 
 // Where a message stands in the store and with which entry; nowhere where there is none.
 pub enum Spot {
@@ -22,11 +23,12 @@ pub enum Spot {
 pub struct Store {}
 
 impl Store {
-    // How many entries a store has, and how many depths. What lies past them is never touched.
-    pub const LENGTH: usize = 3088;
+    // How many entries a store has, and how many depths: one for each round, process and kind, and one for each decision. What lies past them is never touched.
+    pub const LENGTH: usize = (Process::LAST_ROUND as usize + 1) * Group::GREATEST * Store::KINDS
+        + Group::GREATEST;
 
     // The greatest depth that a message can have.
-    pub const DEEPEST: u16 = 3087;
+    pub const DEEPEST: u16 = Group::DEEPEST - 1;
 
     // The constant is the definitions' limit.
     pub(crate) fn deepest() -> u16
@@ -38,7 +40,16 @@ impl Store {
     // How many values there are: an entry is its proposer times this, and its value.
     pub(crate) const VALUES: u64 = 4294967296;
 
-    // The kinds of messages that have a round.
+    // The constant is the definitions' limit.
+    pub(crate) fn values() -> u64
+        ensures { λ r. ⌜ r ≡ limits.values ⌝ }
+    {
+        Store::VALUES
+    }
+
+    // The kinds of messages that have a round, and how many they are.
+    pub(crate) const KINDS: usize = 3;
+
     pub(crate) const E: usize = 0;
 
     pub(crate) const S: usize = 1;
@@ -57,7 +68,7 @@ impl Store {
         requires { ⌜ (1 ≤ sender) × (sender ≤ limits.greatestSize) × (kind ≤ 2) ⌝ }
         ensures { λ r. ⌜ r ≡ stores.slot round sender kind ⌝ }
     {
-        (round as usize * Group::GREATEST + (sender - 1) as usize) * 3 + kind
+        (round as usize * Group::GREATEST + (sender - 1) as usize) * Store::KINDS + kind
     }
 
     // Where the decision of a sender stands.
