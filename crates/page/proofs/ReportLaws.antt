@@ -9,8 +9,8 @@ use lib.ListN.{length, drop}
 use borrow.Author.Tests.{eq-eqb, ne-eqb}
 use Rattle.rules.specs.Limits.{greatestSize}
 use Rattle.rules.specs.Records.{recordOf, depthOf, blankGroup}
-use Rattle.rules.specs.Depths.{started}
-use Rattle.rules.specs.DepthRun.{DeepState, startState, next, after}
+use Rattle.rules.specs.Start.{started}
+use Rattle.rules.specs.Run.{State, startState, next, after}
 use Rattle.rules.specs.declared.group.Group.{Group}
 use Rattle.rules.specs.declared.process.Process.{Process}
 use Rattle.rules.specs.declared.step.Step.{Step}
@@ -49,7 +49,7 @@ piece-line g i e d x y = piece-within (omega arith) (lines-more g i e d) (piece-
 -- ---- a run's group
 
 -- steps keep the size
-after-small : (a : DeepState) (ss : List Step) → a .group .n ≤ greatestSize → after a ss .group .n ≤ greatestSize
+after-small : (a : State) (ss : List Step) → a .group .n ≤ greatestSize → after a ss .group .n ≤ greatestSize
 unfolding after next
 after-small a [] h = h
 after-small a (s ∷ ss) h = after-small (next a s) ss (omega (arith, deep-step-size (a .group) (a .store) (a .depths) s))

@@ -19,14 +19,15 @@ use Rattle.rules.specs.declared.course.Address.the-variants.{Misses, At}
 use Rattle.rules.specs.Limits.{greatestSize, lastRound, tooMany, storeLength, among}
 use Rattle.rules.specs.Records.{processAt, withProcess, withDepth}
 use Rattle.rules.specs.Store.{proposerOf, placeOf, handOver, turned}
-use Rattle.rules.specs.Answers.{saysApplied, saysIdle, saysRefused}
+use Rattle.rules.specs.Depths.{deliveredDepth, depthAfter, datedBoth}
+use Rattle.rules.specs.Refusals.{row, every, short, strange, late, isRecover, down, unsent, misnamed, maySuspect, impossible, recoversPast, entersPast, damaged, tooDeep}
+use Rattle.rules.specs.Refusals.{refusal}
+use Rattle.rules.specs.Answers.{saysApplied, saysIdle, saysRefused, outcome}
+use Rattle.rules.specs.Step.{Idles, Refuses, Takes, orIdle, unlessRefused, handOvers, sentBy, decidesNow, course, settled, stepped, Ready}
+use Rattle.rules.proofs.Bare.Step.{refusalBy}
 use Rattle.rules.specs.Events.{cutIf}
 use Rattle.rules.specs.Steps.{takerOf, numbersOf, roundOf, delivers, slotOf, isCut, entryIn, eventOf}
 use Rattle.rules.specs.Idle.{idle}
-use Rattle.rules.specs.Refusals.{row, every, short, strange, late, isRecover, down, unsent, misnamed, maySuspect, impossible, recoversPast, entersPast, refusalBy}
-use Rattle.rules.specs.Step.{Idles, Refuses, Takes, orIdle, unlessRefused, handOvers, sentBy, decidesNow}
-use Rattle.rules.specs.Step as base
-use Rattle.rules.specs.Depths.{deliveredDepth, depthAfter, datedBoth, damaged, tooDeep, refusal, outcome, course, deepened, datedBy, settled, stepped, Ready}
 use Rattle.rules.specs.Parts.{numberRows, unlessMissed, addressOf, heldRows, unlessPast, orPast, orImpossible, orUp, lastCourse, unlessHeld, heldCourse, Numbered, Handable, HandsOverBoth}
 use Rattle.rules.proofs.RowLaws.{orElse, number-else, held-else, Delivered, delivered-zero, owned-zero, held-zero, among-in}
 use Rattle.rules.proofs.StepLaws.{up-yes, up-many, up-no}
@@ -291,17 +292,17 @@ pub finishes : (g : Group) (i k : ℕ) (x : Next) (l d : List ℕ) {depth : ℕ}
     → HandsOverBoth i (x .first) (x .second) depth l d last deeper sent
     → t ≡ decidesNow (processAt g i) (x .process)
     → outcome after last deeper (saysApplied sent t) ≡ settled g l d k (Takes i x)
-unfolding settled base.settled deepened datedBy datedBoth handOvers sentBy
+unfolding settled datedBoth handOvers sentBy
 finishes g i k x l d e hg h ht =
     (λ t. outcome (hg t) (h .store t) (h .depths t) (saysApplied (h .turns t) (ht t))) ∙ ap (λ (j : ℕ). settled g l d j (Takes i x)) e
 
 module _ (g : Group) (l d : List ℕ) (s : Step) where
   pub idle-outcome : course g l d s ≡ Idles → outcome g l d saysIdle ≡ stepped g l d s
-  unfolding stepped settled base.settled deepened datedBy
+  unfolding stepped settled
   idle-outcome e = rw e
 
   pub refused-outcome : {k : ℕ} → course g l d s ≡ Refuses k → outcome g l d (saysRefused k) ≡ stepped g l d s
-  unfolding stepped settled base.settled deepened datedBy
+  unfolding stepped settled
   refused-outcome e = rw e
 
   pub taken-outcome : {i k : ℕ} {x : Next} → k ≡ depthAfter g d s → course g l d s ≡ Takes i x → settled g l d k (Takes i x) ≡ stepped g l d s

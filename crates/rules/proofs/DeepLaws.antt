@@ -14,17 +14,15 @@ use Rattle.rules.specs.declared.group.Group.{Group}
 use Rattle.rules.specs.declared.process.Process.{Process}
 use Rattle.rules.specs.declared.process.Next.{Next}
 use Rattle.rules.specs.declared.step.Step.{Step}
-use Rattle.rules.specs.Step.{Course, Idles, Refuses, Takes}
+use Rattle.rules.specs.Depths.{deliveredDepth, raises, raised, depthAfter, datedBoth}
+use Rattle.rules.specs.Refusals.{row, short, miscounted, damaged, tooDeep, refusal, startRefusal}
+use Rattle.rules.specs.Answers.{saysRefused, outcome}
+use Rattle.rules.specs.Start.{startedTo, firstMessage, openedDepths, unlessRefusedStart}
+use Rattle.rules.specs.Step.{Course, Idles, Refuses, Takes, unlessRefused, handOvers, sentBy, course, settled, stepped}
 use Rattle.rules.specs.Limits.{greatestSize, storeLength, deepestMessage, deepestProcess, among}
 use Rattle.rules.specs.Records.{withProcess, depthAt, withDepth, Sized, blankGroup}
 use Rattle.rules.specs.Store.{handOver, cleared}
-use Rattle.rules.specs.Answers.{saysRefused}
 use Rattle.rules.specs.Steps.{takerOf, delivers}
-use Rattle.rules.specs.Refusals.{row, short, miscounted, startRefusalBy}
-use Rattle.rules.specs.Start.{startedTo, firstMessage, begun}
-use Rattle.rules.specs.Step.{unlessRefused, handOvers, sentBy}
-use Rattle.rules.specs.Step as base
-use Rattle.rules.specs.Depths.{deliveredDepth, raises, raised, depthAfter, datedBoth, damaged, tooDeep, refusal, startRefusal, outcome, opened, unlessRefusedStart, course, deepened, datedBy, settled, stepped}
 use Rattle.rules.proofs.BoolLaws.{and-left}
 use Rattle.rules.proofs.RowLaws.{row-zero, among-true}
 use Rattle.rules.proofs.StoreLaws.{opened-length, cleared-length}
@@ -37,7 +35,7 @@ use Rattle.rules.proofs.ForgetLaws.{process-deep, depth-put, depth-kept
 
 -- a refused step leaves all as it was
 pub deep-keeps : (g : Group) (l d : List ℕ) (s : Step) → refusal g l d s ≢ 0 → stepped g l d s ≡ outcome g l d (saysRefused (refusal g l d s))
-unfolding stepped course settled base.settled deepened datedBy unlessRefused
+unfolding stepped course settled unlessRefused
 deep-keeps g l d s = go (refusal g l d s)
   where
     go : (k : ℕ) → k ≢ 0 → settled g l d (depthAfter g d s) (unlessRefused k g l s) ≡ outcome g l d (saysRefused k)
@@ -49,14 +47,14 @@ pub deep-step-by : (P : Group → List ℕ → List ℕ → ℕ → Type 0) (g :
     → ((x : Next) → Taking (g .n) (takerOf s) x → DeepPassed g l d s
     → P (withDepth (withProcess g (takerOf s) (x .process)) (takerOf s) (depthAfter g d s)) (handOvers (takerOf s) x l) (datedBoth (takerOf s) x (depthAfter g d s) l d) (sentBy (takerOf s) x l))
     → P (stepped g l d s .group) (stepped g l d s .store) (stepped g l d s .depths) (stepped g l d s .says .sent)
-unfolding stepped settled base.settled deepened datedBy
+unfolding stepped settled
 deep-step-by P g l d s a b = go (course g l d s) refl
   where
     k : ℕ
     k = depthAfter g d s
 
     go : (c : Course) → course g l d s ≡ c
-        → P (deepened k c (base.settled g l c .group)) (base.settled g l c .store) (datedBy k c l d) (base.settled g l c .says .sent)
+        → P (settled g l d k c .group) (settled g l d k c .store) (settled g l d k c .depths) (settled g l d k c .says .sent)
     go Idles e = a
     go (Refuses n) e = a
     go (Takes i x) e =
@@ -149,7 +147,7 @@ module _ (g : Group) (l d : List ℕ) (s : Step) where
 -- what it means that no row refuses
 pub deep-start-passed : (vs l d : List ℕ) → startRefusal vs l d ≡ 0
     → (storeLength ≤ length l) × (storeLength ≤ length d) × (1 ≤ length vs) × (length vs ≤ greatestSize)
-unfolding startRefusal startRefusalBy short miscounted
+unfolding startRefusal short miscounted
 deep-start-passed vs l d e =
     let a = row-zero (ltb (length l) storeLength) 10 (row (ltb (length d) storeLength) 14 (row (not (among greatestSize (length vs))) 1 0)) e in
     let c = row-zero (ltb (length d) storeLength) 13 (row (not (among greatestSize (length vs))) 1 0) (a .1) in
@@ -166,7 +164,7 @@ pub record Starting (vs l d : List ℕ) (k : ℕ) : Type 0 where
   pub sound : k ≡ 0 → damaged (unlessRefusedStart k vs l d .group) ≡ false
 
 starting : (vs l d : List ℕ) (k : ℕ) → startRefusal vs l d ≡ k → Starting vs l d k
-unfolding unlessRefusedStart begun opened blankGroup
+unfolding unlessRefusedStart openedDepths blankGroup
 starting vs l d zero e =
     let h = deep-start-passed vs l d e in
     record {

@@ -1,6 +1,6 @@
 -- The laws of depths: the table with the request's rows passes only what the table without them does, and what a course that is taken says. Assumes nothing.
 use mathlib.Core.Path.{_≡_, refl, sym, ap, ap₂, subst, _∙_}
-use mathlib.Core.Bool.{Bool, true, false, _||_, not}
+use mathlib.Core.Bool.{Bool, true, false, _&&_, _||_, not}
 use mathlib.Core.List.{List}
 use mathlib.Core.Logic.{_≢_}
 use Prim.Native.Nat.{ℕ, zero, suc, _≤_}
@@ -13,44 +13,52 @@ use Rattle.rules.specs.declared.process.Message.{Message}
 use Rattle.rules.specs.declared.process.Message.the-variants.{Nothing, E, S, F, Decision}
 use Rattle.rules.specs.declared.process.Next.{Next}
 use Rattle.rules.specs.declared.step.Step.{Step}
-use Rattle.rules.specs.Step.{Course, Refuses, Takes}
-use Rattle.rules.specs.Limits.{deepestProcess}
+use Rattle.rules.specs.Depths.{datedIf, dated}
+use Rattle.rules.specs.Refusals.{allOf, short, whole, damaged, tooDeep, refusal}
+use Rattle.rules.specs.Step.{Course, Refuses, Takes, idles, orIdle, unlessRefused, course}
+use Rattle.rules.specs.Limits.{greatestSize, deepestProcess, among}
 use Rattle.rules.specs.Records.{processAt, depthAt}
 use Rattle.rules.specs.Store.{placeOf, turned}
 use Rattle.rules.specs.Tally.{bitOf}
 use Rattle.rules.specs.Steps.{takerOf, isCut, eventOf}
 use Rattle.rules.specs.Idle.{idle}
-use Rattle.rules.specs.Refusals.{allOf, short}
-use Rattle.rules.specs.Refusals as base
-use Rattle.rules.specs.Step.{idles, orIdle, unlessRefused}
-use Rattle.rules.specs.Depths.{datedIf, dated, damaged, tooDeep, refusal, course}
+use Rattle.rules.proofs.Bare.Step as base
 use Rattle.rules.proofs.BoolLaws.{or-left, or-right}
-use Rattle.rules.proofs.AllLaws.{all-each, all-every}
+use Rattle.rules.proofs.AllLaws.{all-each, all-every, all-both}
 use Rattle.rules.proofs.StoreLaws.{IsMessage, other}
 use Rattle.rules.proofs.SoundLaws.{Sound, sound-facts, facts-sound, Passed, PassedBy, by-passed, Taking, Fine, passed-fine, passed-of}
 
 -- ---- a sound group whose processes are not too deep
-
--- it is sound without its depths
-pub deep-sound : (g : Group) → damaged g ≡ false → base.damaged g ≡ false
-unfolding damaged
-deep-sound g e = or-left (base.damaged g) _ e
 
 module _ (g : Group) where
   -- what is tested of process i
   abbrev shallow-at : ℕ → Bool
   shallow-at i = leb (depthAt g i) deepestProcess
 
+  abbrev whole-at : ℕ → Bool
+  whole-at i = whole (g .n) (processAt g i)
+
+  -- it is damaged without its depths, or one of them is above the limit
+  split : damaged g ≡ (base.damaged g || not (allOf shallow-at (g .n)))
+  unfolding damaged base.damaged
+  split = ap (λ (b : Bool). not (among greatestSize (g .n) && b)) (all-both whole-at shallow-at (g .n)) ∙ either (among greatestSize (g .n)) (allOf whole-at (g .n)) _
+    where
+      either : (a b c : Bool) → not (a && (b && c)) ≡ (not (a && b) || not c)
+      either true true c = refl
+      either true false c = refl
+      either false b c = refl
+
+  pub deep-sound : damaged g ≡ false → base.damaged g ≡ false
+  deep-sound e = or-left (base.damaged g) (not (allOf shallow-at (g .n))) (sym split ∙ e)
+
   pub deep-facts : damaged g ≡ false → Sound g × ((i : ℕ) → 1 ≤ i → i ≤ g .n → depthAt g i ≤ deepestProcess)
-  unfolding damaged
   deep-facts e =
-      let all = not-false (allOf shallow-at (g .n)) (or-right (base.damaged g) (not (allOf shallow-at (g .n))) e) in
-      (sound-facts g (deep-sound g e), λ i a b. leb-true (depthAt g i) deepestProcess (all-each shallow-at (g .n) i a b all))
+      let all = not-false (allOf shallow-at (g .n)) (or-right (base.damaged g) (not (allOf shallow-at (g .n))) (sym split ∙ e)) in
+      (sound-facts g (deep-sound e), λ i a b. leb-true (depthAt g i) deepestProcess (all-each shallow-at (g .n) i a b all))
 
   pub facts-deep : Sound g → ((i : ℕ) → 1 ≤ i → i ≤ g .n → depthAt g i ≤ deepestProcess) → damaged g ≡ false
-  unfolding damaged
   facts-deep h k =
-      ap₂ _||_ (facts-sound g h) (ap not (all-every shallow-at (g .n) (λ i a b. le-leb (depthAt g i) deepestProcess (k i a b))))
+      split ∙ ap₂ _||_ (facts-sound g h) (ap not (all-every shallow-at (g .n) (λ i a b. le-leb (depthAt g i) deepestProcess (k i a b))))
 
 -- ---- the table with the request's rows
 
@@ -59,7 +67,7 @@ abbrev pub DeepPassed : Group → List ℕ → List ℕ → Step → Type 0
 DeepPassed g l d s = PassedBy (short d) (damaged g) (tooDeep d s) g l s
 
 pub deep-passed : (g : Group) (l d : List ℕ) (s : Step) → refusal g l d s ≡ 0 → DeepPassed g l d s
-unfolding refusal
+unfolding refusal base.refusalBy
 deep-passed g l d s e = by-passed (short d) (damaged g) (tooDeep d s) g l s e
 
 -- then none of the table without depths does

@@ -3,8 +3,9 @@
 use mathlib.Core.Path.{_≡_, refl}
 use mathlib.Core.Bool.{true}
 use lib.Count.{ones}
+use Rattle.rules.specs.Limits.{among}
 use Rattle.rules.specs.Tally.{holds, joined, meets, within}
-use Rattle.rules.specs.Records.{processAt, withProcess, blankGroup}
+use Rattle.rules.specs.Records.{processAt, withProcess, depthIn, depthAt, withDepth, blankGroup}
 use Rattle.rules.specs.Store.{placeOf, entryFor, handOver, turned, cleared}
 use Rattle.rules.specs.Events.{takes, enters, joinsEstimates, joinsSuspicions, decides, secondPhase, marks, paused, crashed, recovered, quiet}
 use Rattle.rules.specs.Events.{changed, jumpsIf, jumps, relaysIf, relays, decidesIf, decidesAt, goesToPhase2, goesToPhase2If, toPhase2}
@@ -12,21 +13,20 @@ use Rattle.rules.specs.Events.{adoptsIf, adopts, opensIf, opens, entersN
 use Rattle.rules.specs.Events.{onPause, onCrash, onRecover, cutIf}
 use Rattle.rules.specs.Steps.{takerOf, numbersOf, roundOf, delivers, slotOf, isCut, entryIn, eventOf}
 use Rattle.rules.specs.Idle.{pastFor, at, idleE, idleS, idleF, idle}
+use Rattle.rules.specs.Depths.{deliveredDepth, raises, raised, depthAfter, datedIf, dated, datedBoth}
 use Rattle.rules.specs.Refusals.{row, allOf, every, short, miscounted, whole, damaged, strange, late, isRecover, down, unsent}
-use Rattle.rules.specs.Refusals.{misnamed, maySuspect, impossible, recoversPast, entersPast, startRefusalBy, startRefusal, refusalBy, refusal}
-use Rattle.rules.specs.Start.{fresh, startedTo, opened, begun, unlessRefusedStart, started}
+use Rattle.rules.specs.Refusals.{misnamed, tooDeep, maySuspect, impossible, recoversPast, entersPast, startRefusal, refusal}
+use Rattle.rules.specs.Start.{fresh, startedTo, opened, openedDepths, unlessRefusedStart, started}
 use Rattle.rules.specs.Step.{idles, orIdle, unlessRefused, course, handOvers, sentBy, decidesNow, settled, stepped}
-use Rattle.rules.specs.Limits.{among}
-use Rattle.rules.specs.Records.{depthIn, depthAt, withDepth}
-use Rattle.rules.specs.Depths as deep
-use Rattle.rules.specs.DepthRun as run
+use Rattle.rules.specs.Run.{startState, next, after}
+use Rattle.rules.specs.Safety.{isSuspicion, plain, deliversE, senderOf, ledBy}
 use Rattle.rules.specs.DepthTable.{allDeep, allDated, ends, holdsFrom, depthsHold, goodRun, relayFirst, coordinatorCrashes, cutKeeps, depthTable}
 
 -- the single statement
 pub depths-hold : depthsHold depthTable ≡ true
 unfolding ones
     holds joined meets within
-    processAt withProcess blankGroup
+    processAt withProcess depthIn depthAt withDepth blankGroup
     placeOf entryFor handOver turned cleared
     takes enters joinsEstimates joinsSuspicions decides secondPhase marks paused crashed recovered quiet
     changed jumpsIf jumps relaysIf relays decidesIf decidesAt goesToPhase2 goesToPhase2If toPhase2
@@ -34,13 +34,11 @@ unfolding ones
     onPause onCrash onRecover cutIf
     takerOf numbersOf roundOf delivers slotOf isCut entryIn eventOf
     pastFor at idleE idleS idleF idle
+    deliveredDepth raises raised depthAfter datedIf dated datedBoth
     row among allOf every short miscounted whole damaged strange late isRecover down unsent
-    misnamed maySuspect impossible recoversPast entersPast startRefusalBy startRefusal refusalBy refusal
-    fresh startedTo opened begun unlessRefusedStart started
+    misnamed tooDeep maySuspect impossible recoversPast entersPast startRefusal refusal
+    fresh startedTo opened openedDepths unlessRefusedStart started
     idles orIdle unlessRefused course handOvers sentBy decidesNow settled stepped
-    depthIn depthAt withDepth
-    deep.deliveredDepth deep.raises deep.raised deep.depthAfter deep.datedIf deep.dated deep.datedBoth deep.damaged deep.tooDeep deep.refusal deep.startRefusal
-    deep.opened deep.unlessRefusedStart deep.started deep.course deep.deepened deep.datedBy deep.settled deep.stepped
-    run.startState run.next run.after run.isSuspicion run.plain run.deliversE run.senderOf run.ledBy
+    startState next after isSuspicion plain deliversE senderOf ledBy
     allDeep allDated ends holdsFrom depthsHold goodRun relayFirst coordinatorCrashes cutKeeps depthTable
 depths-hold = refl

@@ -10,8 +10,8 @@ use lib.Seq.{getD-set-same, getD-set-other, getD-append-add}
 use Rattle.rules.specs.declared.group.Group.{Group}
 use Rattle.rules.specs.declared.process.Process.{Process}
 use Rattle.rules.specs.Records.{processWith, groupOf, put₃, put₄, processAt, withProcess, depthIn, depthAt, withDepth, Sized, blankGroup}
+use Rattle.rules.specs.Records.{forgetting}
 use Rattle.rules.specs.Start.{startedTo, fresh}
-use Rattle.rules.specs.DepthRun.{forgetting}
 use Rattle.rules.proofs.GroupLaws.{sized-started}
 
 -- ---- the first n entries of a list, with others after them

@@ -13,6 +13,7 @@ pub mod DeepLaws
 pub mod StepLaws
 pub mod CourseLaws
 pub mod WayLaws
+pub mod Bare
 pub mod Unique
 pub mod Table
 pub mod DepthTable

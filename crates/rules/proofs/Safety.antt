@@ -27,11 +27,11 @@ pub mod HearF
 pub mod HearRest
 pub mod EachStep
 pub mod Agree
-pub mod Theorem
 -- the run with depths
 pub mod Depths
+pub mod Carried
 pub mod DepthSteps
 pub mod Chains
 pub mod TwoSteps
 pub mod DepthKept
-pub mod DepthTheorem
+pub mod Theorem

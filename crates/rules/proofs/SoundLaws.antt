@@ -17,18 +17,17 @@ use Rattle.rules.specs.declared.process.Message.{Message}
 use Rattle.rules.specs.declared.process.Message.the-variants.{Nothing, E, S, F, Decision}
 use Rattle.rules.specs.declared.step.Step.{Step}
 use Rattle.rules.specs.declared.step.Step.the-variants.{DeliverE, DeliverS, DeliverF, DeliverDecision, Suspect, Pause, Crash, Recover}
-use Rattle.rules.specs.Step.{Course, Idles, Refuses, Takes}
+use Rattle.rules.specs.Refusals.{row, allOf, every, short, whole, strange, late, down, unsent, misnamed, impossible, recoversPast, entersPast, miscounted}
+use Rattle.rules.specs.Start.{fresh, startedTo}
+use Rattle.rules.specs.Step.{Course, Idles, Refuses, Takes, idles, orIdle, unlessRefused, handOvers, sentBy}
+use Rattle.rules.proofs.Bare.Step.{Outcome, refused, damaged, refusalBy, refusal, startRefusalBy, startRefusal, course, settled, stepped, unlessRefusedStart, begun, started}
 use Rattle.rules.specs.Limits.{greatestSize, lastRound, storeLength, coordinator, among}
 use Rattle.rules.specs.Tally.{meets, within}
 use Rattle.rules.specs.Records.{processAt, withProcess, Sized, blankGroup}
 use Rattle.rules.specs.Store.{proposerOf, valueOf, messageRound, entryFor, handOver, sentIn}
-use Rattle.rules.specs.Answers.{Outcome, refused}
 use Rattle.rules.specs.Events.{takes, enters, joinsEstimates, joinsSuspicions, decides, secondPhase, marks, paused, crashed, recovered, quiet, changed, jumpsIf, jumps, relaysIf, relays, decidesIf, decidesAt, goesToPhase2, goesToPhase2If, toPhase2, adoptsIf, adopts, opensIf, opens, entersNextIf, entersNextAt, onE, onS, onF, onDecision, onSuspect, onPause, onCrash, onRecover, cutIf}
 use Rattle.rules.specs.Steps.{takerOf, numbersOf, roundOf, delivers, isCut, entryIn, eventOf}
 use Rattle.rules.specs.Idle.{idle}
-use Rattle.rules.specs.Refusals.{row, allOf, every, short, whole, damaged, strange, late, down, unsent, misnamed, impossible, recoversPast, entersPast, refusalBy, refusal, miscounted, startRefusalBy, startRefusal}
-use Rattle.rules.specs.Step.{idles, orIdle, unlessRefused, course, handOvers, sentBy, settled, stepped}
-use Rattle.rules.specs.Start.{fresh, startedTo, unlessRefusedStart, begun, started}
 use Rattle.rules.proofs.BoolLaws.{and-left, and-right, and-both, or-case}
 use Rattle.rules.proofs.AllLaws.{all-each, all-every}
 use Rattle.rules.proofs.RowLaws.{row-zero, among-true, among-in}

@@ -8,8 +8,9 @@ use Rattle.rules.specs.declared.step.Step.{Step}
 use Rattle.rules.specs.declared.step.Answer.{Answer}
 use Rattle.rules.specs.declared.step.Answer.the-variants.{Idle, Applied, Refused}
 use Rattle.rules.specs.declared.group.Taken.{Taken}
-use Rattle.rules.specs.Answers.{Said, said}
-use Rattle.rules.specs.Depths.{DeepOutcome, outcome, started, stepped, Starts, Steps}
+use Rattle.rules.specs.Answers.{Said, said, Outcome, outcome}
+use Rattle.rules.specs.Start.{started}
+use Rattle.rules.specs.Step.{stepped}
 
 -- the answer that says this
 answerOf : Bool → Bool → Said → Answer
@@ -29,13 +30,13 @@ said-one a b e = sym (answer-said a) ∙ ap (λ (s : Said). answerOf (s .applied
 
 -- an outcome has one group, one content of each store and one answer; so have the steps on a lent group
 module _ {g₁ g₂ : Group} {l₁ l₂ d₁ d₂ : List ℕ} {a₁ a₂ : Answer} where
-  pub outcome-one : (o : DeepOutcome) → outcome g₁ l₁ d₁ (said a₁) ≡ o → outcome g₂ l₂ d₂ (said a₂) ≡ o → (g₁ ≡ g₂) × (l₁ ≡ l₂) × (d₁ ≡ d₂) × (a₁ ≡ a₂)
+  pub outcome-one : (o : Outcome) → outcome g₁ l₁ d₁ (said a₁) ≡ o → outcome g₂ l₂ d₂ (said a₂) ≡ o → (g₁ ≡ g₂) × (l₁ ≡ l₂) × (d₁ ≡ d₂) × (a₁ ≡ a₂)
   outcome-one o e₁ e₂ =
       let e = e₁ ∙ sym e₂ in (
-        ap (λ (x : DeepOutcome). x .group) e,
-        ap (λ (x : DeepOutcome). x .store) e,
-        ap (λ (x : DeepOutcome). x .depths) e,
-        said-one a₁ a₂ (ap (λ (x : DeepOutcome). x .says) e),
+        ap (λ (x : Outcome). x .group) e,
+        ap (λ (x : Outcome). x .store) e,
+        ap (λ (x : Outcome). x .depths) e,
+        said-one a₁ a₂ (ap (λ (x : Outcome). x .says) e),
       )
 
   pub lent-one : (g : Group) (l d : List ℕ) (s : Step) → outcome g₁ l₁ d₁ (said a₁) ≡ stepped g l d s → outcome g₂ l₂ d₂ (said a₂) ≡ stepped g l d s
@@ -43,16 +44,19 @@ module _ {g₁ g₂ : Group} {l₁ l₂ d₁ d₂ : List ℕ} {a₁ a₂ : Answe
   lent-one g l d s = outcome-one (stepped g l d s)
 
 -- a returned group and answer, with the stores left: the start's, and the step's
-taken-one : (o : DeepOutcome) (a b : Taken) (la lb da db : List ℕ) → outcome (a .group) la da (said (a .answer)) ≡ o
+taken-one : (o : Outcome) (a b : Taken) (la lb da db : List ℕ) → outcome (a .group) la da (said (a .answer)) ≡ o
     → outcome (b .group) lb db (said (b .answer)) ≡ o → (a ≡ b) × (la ≡ lb) × (da ≡ db)
 taken-one o a b la lb da db e₁ e₂ =
     let same = outcome-one o e₁ e₂ in
     (λ k. record { group = same .0 k; answer = same .3 k }, same .1, same .2)
 
-pub start-one : (vs l d : List ℕ) (a b : Taken) (la lb da db : List ℕ) → Starts vs l d a la da → Starts vs l d b lb db → (a ≡ b) × (la ≡ lb) × (da ≡ db)
+pub start-one : (vs l d : List ℕ) (a b : Taken) (la lb da db : List ℕ) 
+    → outcome (a .group) la da (said (a .answer)) ≡ started vs l d → outcome (b .group) lb db (said (b .answer)) ≡ started vs l d
+    → (a ≡ b) × (la ≡ lb) × (da ≡ db)
 start-one vs l d = taken-one (started vs l d)
 
-pub step-one : (g : Group) (l d : List ℕ) (s : Step) (a b : Taken) (la lb da db : List ℕ) → Steps g l d s a la da → Steps g l d s b lb db
+pub step-one : (g : Group) (l d : List ℕ) (s : Step) (a b : Taken) (la lb da db : List ℕ) 
+    → outcome (a .group) la da (said (a .answer)) ≡ stepped g l d s → outcome (b .group) lb db (said (b .answer)) ≡ stepped g l d s
     → (a ≡ b) × (la ≡ lb) × (da ≡ db)
 step-one g l d s = taken-one (stepped g l d s)
 

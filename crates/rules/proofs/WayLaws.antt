@@ -22,8 +22,9 @@ use Rattle.rules.specs.Store.{placeOf, entryFor, messageRound, handOver,
 use Rattle.rules.specs.Tally.{bitOf}
 use Rattle.rules.specs.Steps.{takerOf, delivers, entryIn}
 use Rattle.rules.specs.Idle.{idle, idleE, idleS, idleF}
-use Rattle.rules.specs.Step.{Course, Idles, Refuses, Takes}
-use Rattle.rules.specs.Depths.{deliveredDepth, raises, raised, depthAfter, datedAt, dated, tooDeep, course, settled, stepped, Ready}
+use Rattle.rules.specs.Depths.{deliveredDepth, raises, raised, depthAfter, datedAt, dated}
+use Rattle.rules.specs.Refusals.{tooDeep}
+use Rattle.rules.specs.Step.{Course, Idles, Refuses, Takes, course, settled, stepped, Ready}
 use Rattle.rules.proofs.CourseLaws.{held-course, taken-outcome}
 use Rattle.rules.proofs.DepthLaws.{course-takes}
 use Rattle.rules.specs.Parts.{numberRows, heldCourse, lifted, liftUnless, lifts, liftOf, spotOf, HandsOver, HandsOverBoth}

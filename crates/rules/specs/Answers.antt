@@ -29,15 +29,16 @@ said Idle = saysIdle
 said (Applied sent decided) = saysApplied sent decided
 said (Refused k) = saysRefused k
 
--- all that a start or a step yields: the group, the content of the store, and what is said
+-- all that a start or a step yields: the group, the content of both stores, and what is said
 pub record Outcome : Type 0 where
   pub group : Group
   pub store : List ℕ
+  pub depths : List ℕ
   pub says : Said
 
-abbrev pub outcome : Group → List ℕ → Said → Outcome
-outcome g l a = record { group = g; store = l; says = a }
+abbrev pub outcome : Group → List ℕ → List ℕ → Said → Outcome
+outcome g l d a = record { group = g; store = l; depths = d; says = a }
 
 -- refused by k: the "same group", and "No refusal changes the store."
-abbrev pub refused : Group → List ℕ → ℕ → Outcome
-refused g l k = outcome g l (saysRefused k)
+abbrev pub refused : Group → List ℕ → List ℕ → ℕ → Outcome
+refused g l d k = outcome g l d (saysRefused k)

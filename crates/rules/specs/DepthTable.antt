@@ -8,7 +8,8 @@ use lib.ListN.{replicate}
 use Rattle.rules.specs.declared.step.Step.{Step}
 use Rattle.rules.specs.declared.step.Step.the-variants.{DeliverE, DeliverS, DeliverF, DeliverDecision, Suspect, Crash, Recover}
 use Rattle.rules.specs.Limits.{storeLength}
-use Rattle.rules.specs.DepthRun.{DeepState, startState, after, processDepth, messageDepth, decidedIn, plain, led}
+use Rattle.rules.specs.Run.{State, startState, after}
+use Rattle.rules.specs.Safety.{processOf, processDepth, messageDepth, plain, led}
 
 -- a process, whether it has decided, and its depth; and a place of the store with the depth of its message
 pub record Deep : Type 0 where
@@ -38,19 +39,19 @@ pub record DepthRow : Type 0 where
 
 -- ---- that it holds
 
-unfoldable pub allDeep : DeepState → List Deep → Bool
+unfoldable pub allDeep : State → List Deep → Bool
 allDeep a [] = true
-allDeep a (x ∷ xs) = (Bool·beq (decidedIn a (x .process)) (x .decided) && eqb (processDepth a (x .process)) (x .depth)) && allDeep a xs
+allDeep a (x ∷ xs) = (Bool·beq (processOf a (x .process) .decided) (x .decided) && eqb (processDepth a (x .process)) (x .depth)) && allDeep a xs
 
-unfoldable pub allDated : DeepState → List Dated → Bool
+unfoldable pub allDated : State → List Dated → Bool
 allDated a [] = true
 allDated a (x ∷ xs) = eqb (messageDepth a (x .place)) (x .depth) && allDated a xs
 
-unfoldable pub ends : DeepState → DepthRow → Bool
+unfoldable pub ends : State → DepthRow → Bool
 ends a r = allDeep a (r .processes) && allDated a (r .messages)
 
 -- from the start a on
-unfoldable pub holdsFrom : DeepState → DepthRow → Bool
+unfoldable pub holdsFrom : State → DepthRow → Bool
 holdsFrom a r = Bool·beq (plain (r .steps) && led a (r .steps)) (r .asked) && ends (after a (r .steps)) r
 
 unfoldable pub depthsHold : List DepthRow → Bool

@@ -6,24 +6,22 @@ pub mod Limits
 pub mod Tally
 pub mod Records
 pub mod Store
-pub mod Start
 -- "Steps" and "Repairs to the printed figure"
-pub mod Idle
 pub mod Events
 pub mod Steps
+pub mod Idle
+-- request 2026-06
+pub mod Depths
 -- "Refusals"
 pub mod Refusals
--- a step whole: "Every step is applied, idle or refused"
+-- a start and a step whole: "Every step is applied, idle or refused"
 pub mod Answers
+pub mod Start
 pub mod Step
--- request 2026-06: the depths, over all that
-pub mod Depths
--- a run, and "Runs to hold it against"
+-- a run, what holds of every one, and "Runs to hold it against"
 pub mod Run
 pub mod Safety
--- a run with depths
-pub mod DepthRun
-pub mod DepthTable
 pub mod Table
+pub mod DepthTable
 -- for the contracts of private functions alone
 pub mod Parts

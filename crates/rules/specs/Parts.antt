@@ -23,8 +23,8 @@ use Rattle.rules.specs.Events.{onE, onS, onF, onDecision, onSuspect, onP
 use Rattle.rules.specs.Steps.{takerOf, numbersOf, delivers, slotOf}
 use Rattle.rules.specs.Idle.{idleE, idleS, idleF}
 use Rattle.rules.specs.Refusals.{row, every, late, isRecover, maySuspect}
-use Rattle.rules.specs.Step.{Course, Idles, Refuses, Takes, idles, orIdle}
-use Rattle.rules.specs.Depths as deep
+use Rattle.rules.specs.Depths.{deliveredDepth, dated}
+use Rattle.rules.specs.Step.{Course, Idles, Refuses, Takes, idles, orIdle, course}
 
 -- ---- the step alone: rows 3 and 4, then who takes it, where its message stands, whether it delivers one, whether it recovers
 
@@ -110,10 +110,10 @@ lifts p (Crash to) k = 0
 lifts p (Recover to) k = 0
 
 unfoldable pub liftOf : Group → List ℕ → Step → ℕ
-liftOf g d s = lifts (processAt g (takerOf s)) s (deep.deliveredDepth d s + 1)
+liftOf g d s = lifts (processAt g (takerOf s)) s (deliveredDepth d s + 1)
 
 abbrev pub wayOf : Group → List ℕ → List ℕ → Step → Way
-wayOf g l d s = lifted (liftOf g d s) (deep.course g l d s)
+wayOf g l d s = lifted (liftOf g d s) (course g l d s)
 
 -- ---- handing over
 
@@ -128,13 +128,13 @@ spotOf i (Decision v) = Spot.At (placeOf i (Decision v)) (entryFor i (Decision v
 -- process i handed m over at the depth k: both stores after it, and how many entries turned from 0
 pub record HandsOver (i : ℕ) (m : Message) (k : ℕ) (l d l′ d′ : List ℕ) (sent : ℕ) : Type 0 where
   pub store : l′ ≡ handOver i m l
-  pub depths : d′ ≡ deep.dated i m k l d
+  pub depths : d′ ≡ dated i m k l d
   pub turns : sent ≡ turned i m l
 
 -- and then another
 pub record HandsOverBoth (i : ℕ) (m m′ : Message) (k : ℕ) (l d l′ d′ : List ℕ) (sent : ℕ) : Type 0 where
   pub store : l′ ≡ handOver i m′ (handOver i m l)
-  pub depths : d′ ≡ deep.dated i m′ k (handOver i m l) (deep.dated i m k l d)
+  pub depths : d′ ≡ dated i m′ k (handOver i m l) (dated i m k l d)
   pub turns : sent ≡ turned i m l + turned i m′ (handOver i m l)
 
 -- ---- what the functions ask

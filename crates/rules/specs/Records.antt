@@ -4,9 +4,9 @@
 -- Request 2026-03: "Each process record gains its number of recoveries, kept through crashes", and "It is part of the stored record".
 use mathlib.Core.Path.{_≡_}
 use mathlib.Core.Bool.{Bool, true, false}
-use mathlib.Core.List.{List}
+use mathlib.Core.List.{List, _++_}
 use Prim.Native.Nat.{ℕ, _+_, _-_, _*_}
-use lib.ListN.{length, getD, set, replicate}
+use lib.ListN.{length, getD, set, replicate, take}
 use Rattle.rules.specs.declared.group.Group.{Group}
 use Rattle.rules.specs.declared.process.Process.{Process}
 use Rattle.rules.specs.Limits.{greatestSize, among}
@@ -151,3 +151,7 @@ depthOf g i = depthIf (among greatestSize i) g i
 -- a group of size n with every record blank, and every depth 0
 unfoldable pub blankGroup : ℕ → Group
 blankGroup n = groupOf n (replicate (3 * greatestSize) 0) (replicate (3 * greatestSize) 0) (replicate (4 * greatestSize) 0) (replicate (3 * greatestSize) false)
+
+-- g with every depth 0: two groups that differ in depths alone are the same so
+unfoldable pub forgetting : Group → Group
+forgetting g = groupOf (g .n) (g .words) (take third (g .halves) ++ replicate greatestSize 0) (g .bytes) (g .flags)

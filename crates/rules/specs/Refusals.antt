@@ -1,4 +1,4 @@
--- Document 01, "Refusals": the table's rows for start and step, in their order, with the row of request 2026-03. Assumes nothing.
+-- Document 01, "Refusals": the table's rows for start and step, in their order, with the rows of requests 2026-03 and 2026-06. Assumes nothing.
 use mathlib.Core.Bool.{Bool, true, false, _&&_, _||_, not}
 use mathlib.Core.List.{List, [], _∷_}
 use Prim.Native.Nat.{ℕ, zero, suc}
@@ -8,12 +8,13 @@ use Rattle.rules.specs.declared.group.Group.{Group}
 use Rattle.rules.specs.declared.process.Process.{Process}
 use Rattle.rules.specs.declared.step.Step.{Step}
 use Rattle.rules.specs.declared.step.Step.the-variants.{DeliverE, DeliverS, DeliverF, DeliverDecision, Suspect, Pause, Crash, Recover}
-use Rattle.rules.specs.Limits.{greatestSize, lastRound, tooMany, storeLength, among}
+use Rattle.rules.specs.Limits.{greatestSize, lastRound, tooMany, deepestMessage, deepestProcess, storeLength, among}
 use Rattle.rules.specs.Tally.{within}
-use Rattle.rules.specs.Records.{processAt}
+use Rattle.rules.specs.Records.{processAt, depthAt}
 use Rattle.rules.specs.Store.{proposerOf}
 use Rattle.rules.specs.Steps.{takerOf, numbersOf, roundOf, delivers, entryIn, eventOf}
 use Rattle.rules.specs.Idle.{idle}
+use Rattle.rules.specs.Depths.{deliveredDepth}
 
 -- a row of the table: its number where the test holds, else the rows after it; 0 after the last
 unfoldable pub row : Bool → ℕ → ℕ → ℕ
@@ -30,7 +31,7 @@ unfoldable pub every : (ℕ → Bool) → List ℕ → Bool
 every p [] = true
 every p (m ∷ ms) = p m && every p ms
 
--- 11: "store shorter than 3,088"
+-- 11: "store shorter than 3,088"; 14: "where the second store is too short"
 unfoldable pub short : List ℕ → Bool
 short l = ltb (length l) storeLength
 
@@ -44,9 +45,10 @@ whole n p =
     leb (p .round) lastRound
     && ((eqb (p .phase) 1 || eqb (p .phase) 2) && (among n (p .proposer) && (within (p .estimates) n && within (p .suspicions) n)))
 
--- 2: "damaged group: n not 1 to 16, or for a process of 1..n .."
+-- 2: "damaged group: n not 1 to 16, or for a process of 1..n ..", and by request 2026-06 "2 also for a process depth above 3,088"
 unfoldable pub damaged : Group → Bool
-damaged g = not (among greatestSize (g .n) && allOf (λ i. whole (g .n) (processAt g i)) (g .n))
+damaged g =
+    not (among greatestSize (g .n) && allOf (λ i. whole (g .n) (processAt g i) && leb (depthAt g i) deepestProcess) (g .n))
 
 -- 3: "a process number of the step is not 1..n"
 unfoldable pub strange : Group → Step → Bool
@@ -93,6 +95,10 @@ unsent l s = delivers s && eqb (entryIn l s) 0
 unfoldable pub misnamed : Group → List ℕ → Step → Bool
 misnamed g l s = delivers s && not (among (g .n) (proposerOf (entryIn l s)))
 
+-- 14: "where the delivered message's depth is above 3,087"
+unfoldable pub tooDeep : List ℕ → Step → Bool
+tooDeep d s = delivers s && ltb deepestMessage (deliveredDepth d s)
+
 -- 13: "where a recover would exceed 255"
 unfoldable pub recoversPast : Group → Step → Bool
 recoversPast g (DeliverE i j r c) = false
@@ -116,35 +122,22 @@ entersPast g l (Pause i) = false
 entersPast g l (Crash i) = false
 entersPast g l (Recover i) = false
 
--- "Order for start: 11, 1." With 14 "right after 11" by request 2026-06: the rows by their tests
-abbrev pub startRows : Bool → Bool → Bool → ℕ
-startRows shortStore shortDepths wrongCount = row shortStore 11 (row shortDepths 14 (row wrongCount 1 0))
+-- "Order for start: 11, 1.", with 14 "right after 11": of the values vs and the stores l and d
+unfoldable pub startRefusal : List ℕ → List ℕ → List ℕ → ℕ
+startRefusal vs l d = row (short l) 11 (row (short d) 14 (row (miscounted vs) 1 0))
 
--- whether the second store is short is given as a truth value
-unfoldable pub startRefusalBy : Bool → List ℕ → List ℕ → ℕ
-startRefusalBy shortDepths vs l = startRows (short l) shortDepths (miscounted vs)
-
--- without depths
-unfoldable pub startRefusal : List ℕ → List ℕ → ℕ
-startRefusal vs l = startRefusalBy false vs l
-
--- "For steps: as listed from 11, without 1." With 13 "after 7", and with 14 "right after 11" and "right after the entry's 2". Whether the second store is short, whether the group is
--- damaged, and whether the delivered message is too deep, is given as a truth value
-unfoldable pub refusalBy : Bool → Bool → Bool → Group → List ℕ → Step → ℕ
-refusalBy shortDepths damage tooDeep g l s =
+-- "For steps: as listed from 11, without 1.", with 13 "after 7", and 14 "right after 11, where the second store is too short, and right after the entry's 2"
+unfoldable pub refusal : Group → List ℕ → List ℕ → Step → ℕ
+refusal g l d s =
     row (short l) 11
-    (row shortDepths 14
-    (row damage 2
+    (row (short d) 14
+    (row (damaged g) 2
     (row (strange g s) 3
     (row (late s) 4
     (row (down g s) 5
     (row (unsent l s) 6
     (row (misnamed g l s) 2
-    (row tooDeep 14
+    (row (tooDeep d s) 14
     (row (impossible g s) 7
     (row (recoversPast g s) 13
     (row (entersPast g l s) 8 0)))))))))))
-
--- the table without depths
-unfoldable pub refusal : Group → List ℕ → Step → ℕ
-refusal g l s = refusalBy false (damaged g) false g l s

@@ -1,4 +1,4 @@
--- Document 01, "Records and the message store": start, but for its depths (`Depths` lays them over it). Assumes nothing.
+-- Document 01, "Records and the message store": start. Assumes nothing.
 use mathlib.Core.Bool.{false, true}
 use mathlib.Core.List.{List}
 use Prim.Native.Nat.{ℕ, zero, suc}
@@ -11,6 +11,7 @@ use Rattle.rules.specs.Limits.{storeLength}
 use Rattle.rules.specs.Records.{processWith, withProcess, blankGroup}
 use Rattle.rules.specs.Store.{cleared, handOver}
 use Rattle.rules.specs.Answers.{Outcome, outcome, refused, saysApplied}
+use Rattle.rules.specs.Depths.{dated}
 use Rattle.rules.specs.Refusals.{startRefusal}
 
 -- "process i has first value v_i, round 0, phase 1, estimate (i, v_i), no mark, no decision, up, empty tallies", and no recovery
@@ -30,14 +31,15 @@ firstMessage v = E 0 1 v
 unfoldable pub opened : ℕ → List ℕ → List ℕ
 opened v l = handOver 1 (firstMessage v) (cleared storeLength l)
 
--- not refused: applied, and that one entry turns from 0
-unfoldable pub begun : List ℕ → List ℕ → Outcome
-begun vs l = outcome (startedTo vs (length vs)) (opened (getD vs 0 0) l) (saysApplied 1 false)
+-- Request 2026-06, "cleared by start": the second store, and that E has the depth 0
+unfoldable pub openedDepths : ℕ → List ℕ → List ℕ → List ℕ
+openedDepths v l d = dated 1 (firstMessage v) 0 (cleared storeLength l) (cleared storeLength d)
 
--- refused: "a group of size 0"
-unfoldable pub unlessRefusedStart : ℕ → List ℕ → List ℕ → Outcome
-unlessRefusedStart zero vs l = begun vs l
-unlessRefusedStart (suc k) vs l = refused (blankGroup 0) l (suc k)
+-- not refused: applied, and that one entry turns from 0. Refused: "a group of size 0"
+unfoldable pub unlessRefusedStart : ℕ → List ℕ → List ℕ → List ℕ → Outcome
+unlessRefusedStart zero vs l d =
+    outcome (startedTo vs (length vs)) (opened (getD vs 0 0) l) (openedDepths (getD vs 0 0) l d) (saysApplied 1 false)
+unlessRefusedStart (suc k) vs l d = refused (blankGroup 0) l d (suc k)
 
-unfoldable pub started : List ℕ → List ℕ → Outcome
-started vs l = unlessRefusedStart (startRefusal vs l) vs l
+unfoldable pub started : List ℕ → List ℕ → List ℕ → Outcome
+started vs l d = unlessRefusedStart (startRefusal vs l d) vs l d

@@ -1,18 +1,22 @@
--- Document 01, "Steps": a step, whole, but for its depths (`Depths` lays them over it). "Every step is applied, idle or refused; refusals are tested before idleness". Assumes nothing.
+-- Document 01, "Steps": a step, whole. "Every step is applied, idle or refused; refusals are tested before idleness". Assumes nothing.
+use mathlib.Core.Path.{_≡_}
 use mathlib.Core.Bool.{Bool, true, false, _&&_, not}
 use mathlib.Core.List.{List}
-use Prim.Native.Nat.{ℕ, zero, suc, _+_}
+use Prim.Native.Nat.{ℕ, zero, suc, _+_, _≤_}
+use lib.ListN.{length}
 use Rattle.rules.specs.declared.group.Group.{Group}
 use Rattle.rules.specs.declared.process.Process.{Process}
 use Rattle.rules.specs.declared.process.Next.{Next}
 use Rattle.rules.specs.declared.step.Step.{Step}
-use Rattle.rules.specs.Records.{processAt, withProcess}
+use Rattle.rules.specs.Limits.{storeLength}
+use Rattle.rules.specs.Records.{processAt, withProcess, withDepth}
 use Rattle.rules.specs.Store.{handOver, turned}
 use Rattle.rules.specs.Answers.{Outcome, outcome, refused, saysApplied, saysIdle}
 use Rattle.rules.specs.Events.{onCrash, cutIf}
 use Rattle.rules.specs.Steps.{takerOf, isCut, eventOf}
 use Rattle.rules.specs.Idle.{idle}
-use Rattle.rules.specs.Refusals.{refusal}
+use Rattle.rules.specs.Depths.{depthAfter, datedBoth}
+use Rattle.rules.specs.Refusals.{damaged, refusal}
 
 -- ---- the course of a step: idle, refused by a number, or taken by a process with its next record and messages
 
@@ -35,8 +39,8 @@ unfoldable pub unlessRefused : ℕ → Group → List ℕ → Step → Course
 unlessRefused zero g l s = orIdle (idle g s) (isCut s) (takerOf s) (processAt g (takerOf s)) (eventOf g l s)
 unlessRefused (suc k) g l s = Refuses (suc k)
 
-unfoldable pub course : Group → List ℕ → Step → Course
-course g l s = unlessRefused (refusal g l s) g l s
+unfoldable pub course : Group → List ℕ → List ℕ → Step → Course
+course g l d s = unlessRefused (refusal g l d s) g l s
 
 -- ---- its outcome
 
@@ -51,12 +55,21 @@ sentBy i x l = turned i (x .first) l + turned i (x .second) (handOver i (x .firs
 unfoldable pub decidesNow : Process → Process → Bool
 decidesNow p q = q .decided && not (p .decided)
 
--- "An idle step changes nothing."
-unfoldable pub settled : Group → List ℕ → Course → Outcome
-settled g l Idles = outcome g l saysIdle
-settled g l (Refuses k) = refused g l k
-settled g l (Takes i x) =
-    outcome (withProcess g i (x .process)) (handOvers i x l) (saysApplied (sentBy i x l) (decidesNow (processAt g i) (x .process)))
+-- "An idle step changes nothing." The process that takes a course has the depth k after it, and so have the messages that it first hands over
+unfoldable pub settled : Group → List ℕ → List ℕ → ℕ → Course → Outcome
+settled g l d k Idles = outcome g l d saysIdle
+settled g l d k (Refuses j) = refused g l d j
+settled g l d k (Takes i x) =
+    outcome (withDepth (withProcess g i (x .process)) i k) (handOvers i x l) (datedBoth i x k l d)
+    (saysApplied (sentBy i x l) (decidesNow (processAt g i) (x .process)))
 
-unfoldable pub stepped : Group → List ℕ → Step → Outcome
-stepped g l s = settled g l (course g l s)
+unfoldable pub stepped : Group → List ℕ → List ℕ → Step → Outcome
+stepped g l d s = settled g l d (depthAfter g d s) (course g l d s)
+
+-- ---- what the step that a run takes asks: `step_sound`, the one public function with a `requires`
+
+-- both stores are long, and the group is not damaged: 11, the short 14 and the group's 2 are ruled out
+pub record Ready (g : Group) (l d : List ℕ) : Type 0 where
+  pub long : storeLength ≤ length l
+  pub deep-long : storeLength ≤ length d
+  pub sound : damaged g ≡ false

@@ -131,12 +131,12 @@ answered (just es) hs = sameHanded hs es
 unfoldable pub goesOn : State → List Line → List Seen → List Entry → Bool
 goesOn a [] xs es = allLook (a .group) xs && allStand (a .store) es
 goesOn a (x ∷ rest) xs es =
-    let o = stepped (a .group) (a .store) (x .step) in
+    let o = stepped (a .group) (a .store) (a .depths) (x .step) in
     sameSaid (o .says) (x .says)
     && (looksIn (o .group) (x .leaves) && (answered (x .hands) (handedBy a (x .step)) && goesOn (stateOf o) rest xs es))
 
 unfoldable pub holdsOne : Run → Bool
-holdsOne r = goesOn (startState (r .values) (replicate storeLength 0)) (r .lines) (r .processes) (r .entries)
+holdsOne r = goesOn (startState (r .values) (replicate storeLength 0) (replicate storeLength 0)) (r .lines) (r .processes) (r .entries)
 
 unfoldable pub holdsAll : List Run → Bool
 holdsAll [] = true

@@ -11,7 +11,6 @@ ghost use Rattle.rules.specs.Refusals as refusals;
 ghost use Rattle.rules.specs.Idle as idleness;
 ghost use Rattle.rules.specs.Events as events;
 ghost use Rattle.rules.specs.Step as steps;
-ghost use Rattle.rules.specs.Depths as deep;
 ghost use Rattle.rules.specs.Steps.{delivers};
 ghost use Rattle.rules.specs.Parts as parts;
 use crate::group;
@@ -363,7 +362,7 @@ pub(crate) fn way_of(
     depths: &[u16],
     step: Step,
 ) -> Way
-    requires { ⌜ deep.Ready (groupOf n (now words) (now halves) (now bytes) (now flags)) (now store) (now depths) ⌝ }
+    requires { ⌜ steps.Ready (groupOf n (now words) (now halves) (now bytes) (now flags)) (now store) (now depths) ⌝ }
     ensures { λ r. ⌜ r ≡ parts.wayOf (groupOf n (now (words .entry)) (now (halves .entry)) (now (bytes .entry)) (now (flags .entry))) (now (store .entry)) (now (depths .entry)) step ⌝ }
 {
     let address = step.address(n);

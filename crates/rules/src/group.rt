@@ -6,7 +6,6 @@ ghost use Prim.Native.Nat.{ℕ, _≤_};
 ghost use lib.Dec.{eqb};
 ghost use Rattle.rules.specs.Limits as limits;
 ghost use Rattle.rules.specs.Records as records;
-ghost use Rattle.rules.specs.Depths as deep;
 ghost use Rattle.rules.specs.Refusals as refusals;
 use crate::process::Process;
 use crate::step::Answer;
@@ -156,7 +155,7 @@ pub(crate) fn whole(n: u8, p: Process) -> bool
 
 // Whether a group is damaged: its size is not 1 to 16, or a record of its processes has damage or too great a depth.
 pub(crate) fn damaged(n: u8, words: &Words, halves: &Halves, bytes: &Bytes, flags: &Flags) -> bool
-    ensures { λ r. ⌜ r ≡ deep.damaged (records.groupOf n (now (words .entry)) (now (halves .entry)) (now (bytes .entry)) (now (flags .entry))) ⌝ }
+    ensures { λ r. ⌜ r ≡ refusals.damaged (records.groupOf n (now (words .entry)) (now (halves .entry)) (now (bytes .entry)) (now (flags .entry))) ⌝ }
 {
     if n == 0 {
         return true;

@@ -7,7 +7,7 @@ ghost use lib.Dec.{ltb};
 ghost use lib.ListN.{length};
 ghost use Rattle.rules.specs.Limits as limits;
 ghost use Rattle.rules.specs.Records as records;
-ghost use Rattle.rules.specs.Depths as deep;
+ghost use Rattle.rules.specs.Answers as answers;
 ghost use Rattle.rules.specs.Refusals as refusals;
 ghost use Rattle.rules.specs.Start as starts;
 use crate::group;
@@ -24,7 +24,7 @@ use crate::store::Store;
 
 // Refusals 11, 14 and 1 of a start over stores of these lengths with n values, or 0.
 pub(crate) fn start_refusal(store: usize, depths: usize, n: usize) -> u8
-    ensures { λ r. ⌜ r ≡ refusals.startRows (ltb store limits.storeLength) (ltb depths limits.storeLength) (not (limits.among limits.greatestSize n)) ⌝ }
+    ensures { λ r. ⌜ r ≡ refusals.row (ltb store limits.storeLength) 11 (refusals.row (ltb depths limits.storeLength) 14 (refusals.row (not (limits.among limits.greatestSize n)) 1 0)) ⌝ }
 {
     if store < Store::LENGTH {
         return 11;
@@ -63,7 +63,7 @@ pub(crate) fn fill(
 // Clears the store and the depths, and hands process 1's E of round 0 over, whose depth is 0.
 pub(crate) fn begin(value: u32, store: &mut [u64], depths: &mut [u16])
     requires { ⌜ (limits.storeLength ≤ length (now store)) × (limits.storeLength ≤ length (now depths)) ⌝ }
-    ensures { λ r. ⌜ (now (store .exit) ≡ starts.opened value (now (store .entry))) × (now (depths .exit) ≡ deep.opened value (now (store .entry)) (now (depths .entry))) ⌝ }
+    ensures { λ r. ⌜ (now (store .exit) ≡ starts.opened value (now (store .entry))) × (now (depths .exit) ≡ starts.openedDepths value (now (store .entry)) (now (depths .entry))) ⌝ }
 {
     Store::clear(store, depths);
     Store::hand_over(
@@ -82,7 +82,7 @@ pub(crate) fn begin(value: u32, store: &mut [u64], depths: &mut [u16])
 impl Group {
     // A group of one process for each value, with process 1's E of round 0 in a store that is cleared before, and all depths 0. Refused: a group of size 0, and both stores as they were.
     pub fn start(values: &[u32], store: &mut [u64], depths: &mut [u16]) -> Taken
-        ensures { λ r. ⌜ deep.Starts (now (values .entry)) (now (store .entry)) (now (depths .entry)) r (now (store .exit)) (now (depths .exit)) ⌝ }
+        ensures { λ r. ⌜ answers.outcome (r .group) (now (store .exit)) (now (depths .exit)) (answers.said (r .answer)) ≡ starts.started (now (values .entry)) (now (store .entry)) (now (depths .entry)) ⌝ }
     {
         let n = values.len();
         let refusal = start_refusal(store.len(), depths.len(), n);

@@ -6,7 +6,7 @@ ghost use lib.Dec.{eqb};
 ghost use lib.ListN.{length, getD, set};
 ghost use Rattle.rules.specs.Limits as limits;
 ghost use Rattle.rules.specs.Store as stores;
-ghost use Rattle.rules.specs.Depths as deep;
+ghost use Rattle.rules.specs.Depths as dates;
 ghost use Rattle.rules.specs.Parts as parts;
 ghost use Rattle.rules.specs.Tally.{bitOf};
 use crate::group::Group;
@@ -109,7 +109,7 @@ impl Store {
         entry: u64,
     ) -> u8
         requires { ⌜ (at < length (now store)) × (at < length (now depths)) ⌝ }
-        ensures { λ r. ⌜ (now (store .exit) ≡ set (now (store .entry)) at entry) × (now (depths .exit) ≡ deep.datedAt at depth (now (store .entry)) (now (depths .entry))) × (r ≡ bitOf (eqb (getD (now (store .entry)) at 0) 0)) ⌝ }
+        ensures { λ r. ⌜ (now (store .exit) ≡ set (now (store .entry)) at entry) × (now (depths .exit) ≡ dates.datedAt at depth (now (store .entry)) (now (depths .entry))) × (r ≡ bitOf (eqb (getD (now (store .entry)) at 0) 0)) ⌝ }
     {
         let old = store[at];
         store[at] = entry;

@@ -5,9 +5,8 @@ ghost use mathlib.Core.Bool.{_&&_, not};
 ghost use Prim.Native.Nat.{_≤_, max};
 ghost use Rattle.rules.specs.Limits as limits;
 ghost use Rattle.rules.specs.Records.{groupOf, depthIn};
-ghost use Rattle.rules.specs.Answers.{said};
+ghost use Rattle.rules.specs.Answers.{outcome, said};
 ghost use Rattle.rules.specs.Step as steps;
-ghost use Rattle.rules.specs.Depths as deep;
 ghost use Rattle.rules.specs.Parts as parts;
 use crate::course;
 use crate::course::Way;
@@ -55,7 +54,7 @@ pub(crate) fn finish(
     lift: u32,
 ) -> Answer
     requires { ⌜ parts.Handable i next (now store) (now depths) × (lift ≤ limits.deepestProcess) ⌝ }
-    ensures { λ r. ⌜ deep.outcome (groupOf n (now (words .exit)) (now (halves .exit)) (now (bytes .exit)) (now (flags .exit))) (now (store .exit)) (now (depths .exit)) (said r) ≡ deep.settled (groupOf n (now (words .entry)) (now (halves .entry)) (now (bytes .entry)) (now (flags .entry))) (now (store .entry)) (now (depths .entry)) (max (depthIn (now (halves .entry)) i) lift) (steps.Takes i next) ⌝ }
+    ensures { λ r. ⌜ outcome (groupOf n (now (words .exit)) (now (halves .exit)) (now (bytes .exit)) (now (flags .exit))) (now (store .exit)) (now (depths .exit)) (said r) ≡ steps.settled (groupOf n (now (words .entry)) (now (halves .entry)) (now (bytes .entry)) (now (flags .entry))) (now (store .entry)) (now (depths .entry)) (max (depthIn (now (halves .entry)) i) lift) (steps.Takes i next) ⌝ }
 {
     let process = next.process;
     let first = next.first;
@@ -84,8 +83,8 @@ pub fn step_sound(
     depths: &mut [u16],
     step: Step,
 ) -> Answer
-    requires { ⌜ deep.Ready (groupOf n (now words) (now halves) (now bytes) (now flags)) (now store) (now depths) ⌝ }
-    ensures { λ r. ⌜ deep.outcome (groupOf n (now (words .exit)) (now (halves .exit)) (now (bytes .exit)) (now (flags .exit))) (now (store .exit)) (now (depths .exit)) (said r) ≡ deep.stepped (groupOf n (now (words .entry)) (now (halves .entry)) (now (bytes .entry)) (now (flags .entry))) (now (store .entry)) (now (depths .entry)) step ⌝ }
+    requires { ⌜ steps.Ready (groupOf n (now words) (now halves) (now bytes) (now flags)) (now store) (now depths) ⌝ }
+    ensures { λ r. ⌜ outcome (groupOf n (now (words .exit)) (now (halves .exit)) (now (bytes .exit)) (now (flags .exit))) (now (store .exit)) (now (depths .exit)) (said r) ≡ steps.stepped (groupOf n (now (words .entry)) (now (halves .entry)) (now (bytes .entry)) (now (flags .entry))) (now (store .entry)) (now (depths .entry)) step ⌝ }
 {
     let way = course::way_of(n, words, halves, bytes, flags, store, depths, step);
     match way {
@@ -117,7 +116,7 @@ pub fn step_on(
     depths: &mut [u16],
     step: Step,
 ) -> Answer
-    ensures { λ r. ⌜ deep.outcome (groupOf n (now (words .exit)) (now (halves .exit)) (now (bytes .exit)) (now (flags .exit))) (now (store .exit)) (now (depths .exit)) (said r) ≡ deep.stepped (groupOf n (now (words .entry)) (now (halves .entry)) (now (bytes .entry)) (now (flags .entry))) (now (store .entry)) (now (depths .entry)) step ⌝ }
+    ensures { λ r. ⌜ outcome (groupOf n (now (words .exit)) (now (halves .exit)) (now (bytes .exit)) (now (flags .exit))) (now (store .exit)) (now (depths .exit)) (said r) ≡ steps.stepped (groupOf n (now (words .entry)) (now (halves .entry)) (now (bytes .entry)) (now (flags .entry))) (now (store .entry)) (now (depths .entry)) step ⌝ }
 {
     if store.len() < Store::LENGTH {
         return Answer::Refused(11);
@@ -134,7 +133,7 @@ pub fn step_on(
 impl Group {
     // One step of the group over its store and the depths of its messages.
     pub fn step(self, store: &mut [u64], depths: &mut [u16], step: Step) -> Taken
-        ensures { λ r. ⌜ deep.Steps self (now (store .entry)) (now (depths .entry)) step r (now (store .exit)) (now (depths .exit)) ⌝ }
+        ensures { λ r. ⌜ outcome (r .group) (now (store .exit)) (now (depths .exit)) (said (r .answer)) ≡ steps.stepped self (now (store .entry)) (now (depths .entry)) step ⌝ }
     {
         let n = self.n;
         let mut words = self.words;

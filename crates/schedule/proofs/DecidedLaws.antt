@@ -9,20 +9,21 @@ use Prim.Native.Nat.{ℕ, zero, suc, _+_, _≤_}
 use lib.ListN.{length}
 use Rattle.rules.specs.Limits.{greatestSize}
 use Rattle.rules.specs.Tally.{bitOf, count}
-use Rattle.rules.specs.Records.{processAt, withProcess, Sized}
-use Rattle.rules.specs.Start.{fresh, begun}
-use Rattle.rules.specs.Step.{decidesNow, settled, stepped, course}
+use Rattle.rules.specs.Records.{processAt, withProcess, withDepth, Sized}
+use Rattle.rules.specs.Depths.{depthAfter}
+use Rattle.rules.specs.Start.{fresh, startedTo}
+use Rattle.rules.specs.Step.{Course, Idles, Refuses, Takes, decidesNow, settled, stepped, course}
 use Rattle.rules.specs.Run.{State, startState, next, after, answers}
-use Rattle.rules.specs.Safety.{Begins, at, processOf}
+use Rattle.rules.specs.Safety.{Begins, at, processOf, says}
 use Rattle.rules.specs.declared.group.Group.{Group}
 use Rattle.rules.specs.declared.process.Process.{Process}
-use Rattle.rules.specs.Step.{Course, Idles, Refuses, Takes}
 use Rattle.rules.specs.declared.step.Step.{Step}
 use Rattle.rules.proofs.CountLaws.{count-ext, count-none}
 use Rattle.rules.proofs.GroupLaws.{process-put, process-kept, with-size, started-process, started-size}
-use Rattle.rules.proofs.SoundLaws.{Fine, course-fine}
-use Rattle.rules.proofs.Safety.Basics.{Basic, basic, start-is, after-more}
-use Rattle.rules.proofs.Safety.Stored.{decisions-stay}
+use Rattle.rules.proofs.SoundLaws.{Fine}
+use Rattle.rules.proofs.ForgetLaws.{process-deep}
+use Rattle.rules.proofs.Safety.Depths.{DeepBasic, deep-size, deep-fine, start-deep, deep-basic, deep-more}
+use Rattle.rules.proofs.Safety.Theorem.{safety}
 use Rattle.schedule.specs.Counts.{counted, countedAll}
 use Rattle.schedule.specs.Promise.{decidedIn}
 use Rattle.schedule.specs.declared.counts.Counts.{Counts}
@@ -61,6 +62,13 @@ decides-bit : (p q : Process) → (p .decided ≡ true → q .decided ≡ true) 
 unfolding decidesNow
 decides-bit p q h = bits (p .decided) (q .decided) h
 
+-- a depth changes no decision
+deep-decided : (g : Group) (i k : ℕ) → g .n ≤ greatestSize → decidedIn (withDepth g i k) ≡ decidedIn g
+unfolding withDepth
+deep-decided g i k small =
+    count-ext (λ j. processAt g j .decided) (λ j. processAt (withDepth g i k) j .decided) (g .n)
+    (λ j lo hi. ap (λ (p : Process). p .decided) (process-deep g i k j (omega (arith, small))))
+
 module _ (g : Group) (sized : Sized g) (small : g .n ≤ greatestSize) where
   -- the change of one process
   with-decided : (i : ℕ) (q : Process) → 1 ≤ i → i ≤ g .n → (processAt g i .decided ≡ true → q .decided ≡ true)
@@ -79,36 +87,41 @@ module _ (g : Group) (sized : Sized g) (small : g .n ≤ greatestSize) where
   abbrev Stay : Group → Type 0
   Stay g′ = (i : ℕ) → 1 ≤ i → i ≤ g .n → processAt g i .decided ≡ true → processAt g′ i .decided ≡ true
 
-  settled-decided : (l : List ℕ) (c : Course) → Fine (g .n) c → Stay (settled g l c .group)
-      → decidedIn (settled g l c .group) ≡ decidedIn g + bitOf (settled g l c .says .decided)
+  settled-decided : (l d : List ℕ) (k : ℕ) (c : Course) → Fine (g .n) c → Stay (settled g l d k c .group)
+      → decidedIn (settled g l d k c .group) ≡ decidedIn g + bitOf (settled g l d k c .says .decided)
   unfolding settled
-  settled-decided l Idles f h = omega arith
-  settled-decided l (Refuses k) f h = omega arith
-  settled-decided l (Takes i x) f h =
-      with-decided i (x .process) (f .low) (f .high)
-      (λ d. ap (λ (q : Process). q .decided) (sym (process-put g i (x .process) sized (f .low) (f .small))) ∙ h i (f .low) (f .high) d)
+  settled-decided l d k Idles f h = omega arith
+  settled-decided l d k (Refuses j) f h = omega arith
+  settled-decided l d k (Takes i x) f h =
+      let g′ = withProcess g i (x .process) in
+      deep-decided g′ i k (omega (arith, with-size g i (x .process), small))
+      ∙ with-decided i (x .process) (f .low) (f .high)
+      (λ e.
+      ap (λ (q : Process). q .decided) (sym (process-put g i (x .process) sized (f .low) (f .small)))
+      ∙ ap (λ (q : Process). q .decided) (sym (process-deep g′ i k i (f .small))) ∙ h i (f .low) (f .high) e)
 
-  step-decided : (l : List ℕ) (s : Step) → Stay (stepped g l s .group) → decidedIn (stepped g l s .group) ≡ decidedIn g + bitOf (stepped g l s .says .decided)
+  step-decided : (l d : List ℕ) (s : Step) → Fine (g .n) (course g l d s) → Stay (stepped g l d s .group)
+      → decidedIn (stepped g l d s .group) ≡ decidedIn g + bitOf (stepped g l d s .says .decided)
   unfolding stepped
-  step-decided l s h = settled-decided l (course g l s) (course-fine g l s) h
+  step-decided l d s f h = settled-decided l d (depthAfter g d s) (course g l d s) f h
 
 -- ---- a run
 
 -- no process of a start has decided
-pub start-decided : (vs l : List ℕ) → Begins vs l → decidedIn (startState vs l .group) ≡ 0
-unfolding begun fresh
-start-decided vs l b =
-    ap (λ (a : State). decidedIn (a .group)) (start-is vs l b)
-    ∙ count-none (λ i. processAt (begun vs l .group) i .decided) (begun vs l .group .n)
+pub start-decided : (vs l d : List ℕ) → Begins vs l d → decidedIn (startState vs l d .group) ≡ 0
+unfolding fresh
+start-decided vs l d b =
+    ap (λ (a : State). decidedIn (a .group)) (start-deep vs l d b)
+    ∙ count-none (λ i. processAt (startedTo vs (length vs)) i .decided) (startedTo vs (length vs) .n)
     (λ i lo hi. ap (λ (p : Process). p .decided) (started-process vs (length vs) i lo (omega (arith, started-size vs (length vs))) (b .few)))
 
-module _ (vs l : List ℕ) where
+module _ (vs l d : List ℕ) where
   -- a state of the run, with the steps that were taken to it
   pub record Reached (a : State) : Type 0 where
     pub steps : List Step
-    pub is : at vs l steps ≡ a
+    pub is : at vs l d steps ≡ a
 
-  pub reached-start : Reached (startState vs l)
+  pub reached-start : Reached (startState vs l d)
   unfolding after
   reached-start = record { steps = []; is = refl }
 
@@ -117,7 +130,7 @@ module _ (vs l : List ℕ) where
   reached-next a s r =
       record {
         steps = r .steps ++ (s ∷ []);
-        is = after-more (startState vs l) (r .steps) (s ∷ []) ∙ ap (λ (c : State). next c s) (r .is);
+        is = deep-more (startState vs l d) (r .steps) (s ∷ []) ∙ ap (λ (c : State). next c s) (r .is);
       }
 
   pub reached-after : (a : State) (ss : List Step) → Reached a → Reached (after a ss)
@@ -125,23 +138,24 @@ module _ (vs l : List ℕ) where
   reached-after a [] r = r
   reached-after a (s ∷ ss) r = reached-after (next a s) ss (reached-next a s r)
 
-  module _ (b : Begins vs l) where
+  module _ (b : Begins vs l d) where
     -- process i is decided after a step of the run if it was before
     abbrev StaysDecided : Step → State → Type 0
     StaysDecided s a = (i : ℕ) → 1 ≤ i → i ≤ length vs → processOf a i .decided ≡ true → processOf (next a s) i .decided ≡ true
 
-    at-stays : (ss : List Step) (s : Step) → StaysDecided s (at vs l ss)
+    at-stays : (ss : List Step) (s : Step) → StaysDecided s (at vs l d ss)
     unfolding after
-    at-stays ss s i lo hi d =
-        decisions-stay vs l ss b (s ∷ []) i (processOf (at vs l ss) i .decision) (record { low = lo; high = hi }) (record { decided = d; decision = refl }) .decided
+    at-stays ss s i lo hi e =
+        safety .decisions vs l d ss b (s ∷ []) i (processOf (at vs l d ss) i .decision) (record { low = lo; high = hi }) (record { decided = e; decision = refl }) .decided
 
     next-decided : (a : State) (s : Step) → Reached a
-        → decidedIn (next a s .group) ≡ decidedIn (a .group) + bitOf (stepped (a .group) (a .store) s .says .decided)
+        → decidedIn (next a s .group) ≡ decidedIn (a .group) + bitOf (says a s .decided)
     unfolding next
     next-decided a s r =
-        let h : Basic vs a = subst (Basic vs) (r .is) (basic vs l (r .steps) b) in
+        let h : DeepBasic vs a = subst (DeepBasic vs) (r .is) (deep-basic vs l d (r .steps) b) in
+        let size = deep-size vs a h in
         let stays : StaysDecided s a = subst (StaysDecided s) (r .is) (at-stays (r .steps) s) in
-        step-decided (a .group) (h .sized) (omega (arith, h .size, b .few)) (a .store) s (λ i lo hi. stays i lo (omega (arith, h .size)))
+        step-decided (a .group) (h .sized) (omega (arith, size, b .few)) (a .store) (a .depths) s (deep-fine vs a h s) (λ i lo hi. stays i lo (omega (arith, size)))
 
     -- the processes that decide while some steps are taken are those that their counts add
     pub run-decided : (c : Counts) (a : State) (ss : List Step) → Reached a
@@ -149,5 +163,5 @@ module _ (vs l : List ℕ) where
     unfolding after answers countedAll counted
     run-decided c a [] r = refl
     run-decided c a (s ∷ ss) r =
-        let rest = run-decided (counted c (stepped (a .group) (a .store) s .says)) (next a s) ss (reached-next a s r) in
+        let rest = run-decided (counted c (says a s)) (next a s) ss (reached-next a s r) in
         omega (arith, next-decided a s r)

@@ -9,17 +9,15 @@ use lib.ListN.{length, getD}
 use Rattle.rules.specs.Tally.{bitOf}
 use Rattle.rules.specs.Records.{Sized}
 use Rattle.rules.specs.Store.{placeOf, handOver, turned}
-use Rattle.rules.specs.Answers.{Said}
-use Rattle.rules.specs.Step.{sentBy}
-use Rattle.rules.specs.Step as base
-use Rattle.rules.specs.Depths.{DeepOutcome, outcome, damaged, course, settled, stepped}
-use Rattle.rules.specs.DepthRun.{DeepState, stateOf, next, after, answers}
-use Rattle.rules.specs.Depths.{Ready}
+use Rattle.rules.specs.Answers.{Said, Outcome, outcome}
+use Rattle.rules.specs.Depths.{depthAfter}
+use Rattle.rules.specs.Refusals.{damaged}
+use Rattle.rules.specs.Step.{Course, Idles, Refuses, Takes, sentBy, course, settled, stepped, Ready}
+use Rattle.rules.specs.Run.{State, stateOf, next, after, answers}
 use Rattle.rules.specs.declared.group.Group.{Group}
 use Rattle.rules.specs.declared.process.Message.{Message}
 use Rattle.rules.specs.declared.process.Message.the-variants.{Nothing, E, S, F, Decision}
 use Rattle.rules.specs.declared.process.Next.{Next}
-use Rattle.rules.specs.Step.{Course, Idles, Refuses, Takes}
 use Rattle.rules.specs.declared.step.Step.{Step}
 use Rattle.rules.proofs.DeepLaws.{deep-sound-step, deep-sized-step, deep-step-length, depths-step-length}
 use Rattle.schedule.specs.Limits.{mostSteps}
@@ -50,15 +48,15 @@ sent-two : (i : ℕ) (x : Next) (l : List ℕ) → sentBy i x l ≤ 2
 unfolding sentBy
 sent-two i x l = omega (arith, turned-one i (x .first) l, turned-one i (x .second) (handOver i (x .first) l))
 
-settled-two : (g : Group) (l : List ℕ) (k : Course) → base.settled g l k .says .sent ≤ 2
-unfolding base.settled
-settled-two g l Idles = omega arith
-settled-two g l (Refuses k) = omega arith
-settled-two g l (Takes i x) = sent-two i x l
+settled-two : (g : Group) (l d : List ℕ) (k : ℕ) (c : Course) → settled g l d k c .says .sent ≤ 2
+unfolding settled
+settled-two g l d k Idles = omega arith
+settled-two g l d k (Refuses j) = omega arith
+settled-two g l d k (Takes i x) = sent-two i x l
 
 pub step-two : (g : Group) (l d : List ℕ) (s : Step) → stepped g l d s .says .sent ≤ 2
-unfolding stepped settled
-step-two g l d s = settled-two g l (course g l d s)
+unfolding stepped
+step-two g l d s = settled-two g l d (depthAfter g d s) (course g l d s)
 
 -- ---- counts of i steps
 
@@ -100,7 +98,7 @@ counting-room c i h few =
 -- ---- while the steps are taken
 
 -- i of the count steps that stand from a place on are taken: from the state a₀ to the state a, with the counts c; the other lines begin at here
-pub record Going (s : List ℕ) (at count : ℕ) (a₀ a : DeepState) (c : Counts) (i here : ℕ) : Type 0 where
+pub record Going (s : List ℕ) (at count : ℕ) (a₀ a : State) (c : Counts) (i here : ℕ) : Type 0 where
   pub all : List Step
   pub rest : List Step
   pub end : ℕ
@@ -116,7 +114,7 @@ pub record Going (s : List ℕ) (at count : ℕ) (a₀ a : DeepState) (c : Count
   pub same : length (a .store) ≡ length (a₀ .store)
   pub deep-same : length (a .depths) ≡ length (a₀ .depths)
 
-pub counts-same : {s : List ℕ} {at count : ℕ} {a₀ a : DeepState} {c d : Counts} {i here : ℕ} → c ≡ d → Going s at count a₀ a c i here → Going s at count a₀ a d i here
+pub counts-same : {s : List ℕ} {at count : ℕ} {a₀ a : State} {c d : Counts} {i here : ℕ} → c ≡ d → Going s at count a₀ a c i here → Going s at count a₀ a d i here
 counts-same {s} {at} {count} {a₀} {a} {c} {d} {i} {here} e h = subst (λ (k : Counts). Going s at count a₀ a k i here) e h
 
 module _ (s : List ℕ) (at count : ℕ) where
@@ -140,7 +138,7 @@ module _ (s : List ℕ) (at count : ℕ) where
         deep-same = refl;
       }
 
-  module _ (a₀ a : DeepState) (c : Counts) (i here : ℕ) (h : Going s at count a₀ a c i here) (less : i < count) where
+  module _ (a₀ a : State) (c : Counts) (i here : ℕ) (h : Going s at count a₀ a c i here) (less : i < count) where
     ahead : First (lineAt s) (count - (i + 1)) i here (h .rest) (h .end)
     ahead = lines-first (lineAt s) (count - (i + 1)) i here (h .rest) (h .end) (ap (λ (k : ℕ). linesAt (lineAt s) k i here) (sym (one-less count i less)) ∙ h .left)
 
@@ -151,7 +149,7 @@ module _ (s : List ℕ) (at count : ℕ) where
     pub going-room : Room c
     going-room = counting-room c i (h .counting) (omega (arith, h .few))
 
-    module _ (t : Taken) (e : lineAt s here ≡ lineRead t) (a′ : DeepState) (x : Said) (o : outcome (a′ .group) (a′ .store) (a′ .depths) x ≡ stepped (a .group) (a .store) (a .depths) (t .step)) where
+    module _ (t : Taken) (e : lineAt s here ≡ lineRead t) (a′ : State) (x : Said) (o : outcome (a′ .group) (a′ .store) (a′ .depths) x ≡ stepped (a .group) (a .store) (a .depths) (t .step)) where
       step-is : ahead .first ≡ t .step
       step-is = same-thing (sym (ahead .is) ∙ e)
 
@@ -166,24 +164,24 @@ module _ (s : List ℕ) (at count : ℕ) where
       next-is = ap stateOf (sym o)
 
       says-is : stepped (a .group) (a .store) (a .depths) (t .step) .says ≡ x
-      says-is = ap (λ (q : DeepOutcome). q .says) (sym o)
+      says-is = ap (λ (q : Outcome). q .says) (sym o)
 
       group-is : stepped (a .group) (a .store) (a .depths) (t .step) .group ≡ a′ .group
-      group-is = ap (λ (q : DeepOutcome). q .group) (sym o)
+      group-is = ap (λ (q : Outcome). q .group) (sym o)
 
       store-is : stepped (a .group) (a .store) (a .depths) (t .step) .store ≡ a′ .store
-      store-is = ap (λ (q : DeepOutcome). q .store) (sym o)
+      store-is = ap (λ (q : Outcome). q .store) (sym o)
 
       depths-is : stepped (a .group) (a .store) (a .depths) (t .step) .depths ≡ a′ .depths
-      depths-is = ap (λ (q : DeepOutcome). q .depths) (sym o)
+      depths-is = ap (λ (q : Outcome). q .depths) (sym o)
 
       state-on : after a (t .step ∷ ahead .others) ≡ after a′ (ahead .others)
       unfolding after
-      state-on = ap (λ (b : DeepState). after b (ahead .others)) next-is
+      state-on = ap (λ (b : State). after b (ahead .others)) next-is
 
       counts-on : countedAll c (answers a (t .step ∷ ahead .others)) ≡ countedAll (counted c x) (answers a′ (ahead .others))
       unfolding answers countedAll
-      counts-on = ap₂ (λ (y : Said) (b : DeepState). countedAll (counted c y) (answers b (ahead .others))) says-is next-is
+      counts-on = ap₂ (λ (y : Said) (b : State). countedAll (counted c y) (answers b (ahead .others))) says-is next-is
 
       sized-on : Sized (a′ .group)
       sized-on = subst Sized group-is (deep-sized-step (a .group) (a .store) (a .depths) (t .step) (h .sized))

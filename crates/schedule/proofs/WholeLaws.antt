@@ -10,11 +10,11 @@ use lib.ListN.{length, take}
 use borrow.Author.Tests.{le-ltb, ltb-false, eqb-false, ne-eqb}
 use Rattle.rules.specs.Limits.{greatestSize, storeLength}
 use Rattle.rules.specs.Records.{Sized}
-use Rattle.rules.specs.Refusals.{row, short, miscounted, startRefusalBy, refusalBy}
-use Rattle.rules.specs.Answers.{Said, saysRefused}
-use Rattle.rules.specs.Depths.{DeepOutcome, outcome, damaged, refusal, startRefusal, started, stepped}
-use Rattle.rules.specs.DepthRun.{DeepState, stateOf, startState, next, after, answers}
-use Rattle.rules.specs.Depths.{Ready}
+use Rattle.rules.specs.Refusals.{row, short, miscounted, damaged, startRefusal, refusal}
+use Rattle.rules.specs.Answers.{Said, saysRefused, Outcome, outcome}
+use Rattle.rules.specs.Start.{started}
+use Rattle.rules.specs.Step.{stepped, Ready}
+use Rattle.rules.specs.Run.{State, stateOf, startState, next, after, answers}
 use Rattle.rules.specs.declared.group.Group.{Group}
 use Rattle.rules.specs.declared.step.Step.{Step}
 use Rattle.rules.proofs.BoolLaws.{or-left, or-right}
@@ -34,11 +34,11 @@ use Rattle.schedule.proofs.FileLaws.{file-read}
 
 -- ---- a sound group over long stores stays so
 
-pub record Steady (a : DeepState) : Type 0 where
+pub record Steady (a : State) : Type 0 where
   pub sized : Sized (a .group)
   pub ready : Ready (a .group) (a .store) (a .depths)
 
-steady-next : (a : DeepState) (s : Step) → Steady a → Steady (next a s)
+steady-next : (a : State) (s : Step) → Steady a → Steady (next a s)
 unfolding next
 steady-next a s h =
     record {
@@ -50,7 +50,7 @@ steady-next a s h =
       };
     }
 
-pub steady-after : (a : DeepState) (ss : List Step) → Steady a → Steady (after a ss)
+pub steady-after : (a : State) (ss : List Step) → Steady a → Steady (after a ss)
 unfolding after
 steady-after a [] h = h
 steady-after a (s ∷ ss) h = steady-after (next a s) ss (steady-next a s h)
@@ -86,13 +86,13 @@ module _ (s : List ℕ) (p : Places) (g : Group) (l d : List ℕ) (h : BothReady
         record {
           fault = e;
           warmup = x .counts;
-          measured = y .counts ∙ ap (λ (t : DeepState). countsOf t ms) (x .state);
-          state = y .state ∙ ap (λ (t : DeepState). after t ms) (x .state);
+          measured = y .counts ∙ ap (λ (t : State). countsOf t ms) (x .state);
+          state = y .state ∙ ap (λ (t : State). after t ms) (x .state);
         }
 
 -- ---- a store that is too short: the same number refuses every step
 
-module _ (a : DeepState) (m : ℕ) (h : (s : Step) → refusal (a .group) (a .store) (a .depths) s ≡ suc m) where
+module _ (a : State) (m : ℕ) (h : (s : Step) → refusal (a .group) (a .store) (a .depths) s ≡ suc m) where
   refuses : (s : Step) → stepped (a .group) (a .store) (a .depths) s ≡ outcome (a .group) (a .store) (a .depths) (saysRefused (suc m))
   refuses s =
       deep-keeps (a .group) (a .store) (a .depths) s (λ z. let y : suc m ≡ 0 = sym (h s) ∙ z in omega arith)
@@ -105,7 +105,7 @@ module _ (a : DeepState) (m : ℕ) (h : (s : Step) → refusal (a .group) (a .st
   pub short-state : (ss : List Step) → after a ss ≡ a
   unfolding after
   short-state [] = refl
-  short-state (s ∷ ss) = ap (λ (b : DeepState). after b ss) (stays s) ∙ short-state ss
+  short-state (s ∷ ss) = ap (λ (b : State). after b ss) (stays s) ∙ short-state ss
 
   one-more : (k : ℕ) → counted (refusedAll k) (saysRefused (suc m)) ≡ refusedAll (k + 1)
   unfolding counted refusedAll
@@ -115,7 +115,7 @@ module _ (a : DeepState) (m : ℕ) (h : (s : Step) → refusal (a .group) (a .st
   unfolding answers countedAll
   short-from k [] = ap refusedAll (omega arith)
   short-from k (s ∷ ss) =
-      ap₂ (λ (x : Said) (b : DeepState). countedAll (counted (refusedAll k) x) (answers b ss)) (ap (λ (o : DeepOutcome). o .says) (refuses s)) (stays s)
+      ap₂ (λ (x : Said) (b : State). countedAll (counted (refusedAll k) x) (answers b ss)) (ap (λ (o : Outcome). o .says) (refuses s)) (stays s)
       ∙ ap (λ (d : Counts). countedAll d (answers a ss)) (one-more k) ∙ short-from (k + 1) ss ∙ ap refusedAll (omega arith)
 
   pub short-counts : (ss : List Step) → countsOf a ss ≡ refusedAll (length ss)
@@ -123,9 +123,9 @@ module _ (a : DeepState) (m : ℕ) (h : (s : Step) → refusal (a .group) (a .st
   short-counts ss = short-from 0 ss ∙ ap refusedAll (omega arith)
 
 -- 11 where the store is, else 14 where the depths are
-short-number : (a : DeepState) → (ltb (length (a .store)) storeLength || ltb (length (a .depths)) storeLength) ≡ true
+short-number : (a : State) → (ltb (length (a .store)) storeLength || ltb (length (a .depths)) storeLength) ≡ true
     → (m : ℕ) × ((s : Step) → refusal (a .group) (a .store) (a .depths) s ≡ suc m)
-unfolding refusal refusalBy row short
+unfolding refusal row short
 short-number a = go (ltb (length (a .store)) storeLength) (ltb (length (a .depths)) storeLength) refl refl
   where
     go : (x y : Bool) → ltb (length (a .store)) storeLength ≡ x → ltb (length (a .depths)) storeLength ≡ y → (x || y) ≡ true
@@ -151,10 +151,10 @@ module _ (vs l d : List ℕ) (some : 1 ≤ length vs) (few : length vs ≤ great
 
   same-long : (length l₁ ≡ length l) × (length d₁ ≡ length d)
   unfolding started
-  same-long = (ap (λ (o : DeepOutcome). length (o .store)) e ∙ starts .store, ap (λ (o : DeepOutcome). length (o .depths)) e ∙ starts .depths)
+  same-long = (ap (λ (o : Outcome). length (o .store)) e ∙ starts .store, ap (λ (o : Outcome). length (o .depths)) e ∙ starts .depths)
 
   passes : storeLength ≤ length l₁ → storeLength ≤ length d₁ → startRefusal vs l d ≡ 0
-  unfolding startRefusal startRefusalBy row short miscounted
+  unfolding startRefusal row short miscounted
   passes h k =
       rw (le-ltb (length l) storeLength (omega (arith, same-long)), le-ltb (length d) storeLength (omega (arith, same-long)), among-in greatestSize (length vs) some few)
 
@@ -162,8 +162,8 @@ module _ (vs l d : List ℕ) (some : 1 ≤ length vs) (few : length vs ≤ great
   unfolding started
   begin-steady h k =
       record {
-        sized = subst Sized (ap (λ (o : DeepOutcome). o .group) (sym e)) (starts .sized);
-        ready = record { long = h; deep-long = k; sound = ap damaged (ap (λ (o : DeepOutcome). o .group) e) ∙ starts .sound (passes h k) };
+        sized = subst Sized (ap (λ (o : Outcome). o .group) (sym e)) (starts .sized);
+        ready = record { long = h; deep-long = k; sound = ap damaged (ap (λ (o : Outcome). o .group) e) ∙ starts .sound (passes h k) };
       }
 
 -- ---- a sound file
@@ -206,9 +206,9 @@ module _ (s : List ℕ) (n : ℕ) (vs : List ℕ) (p : Places) (h : FormGood s n
     unfolding runBy hasRun
     has-run b =
         let from : stateWith g l₁ d₁ ≡ begins schedule l d = sym begun-is in
-        let end : stateWith (r .group) l′ d′ ≡ after (between schedule l d) (h .measured) = b .state ∙ ap (λ (t : DeepState). after (after t (h .warmup)) (h .measured)) from in
-        let one : r .warmup ≡ countsOf (begins schedule l d) (h .warmup) = b .warmup ∙ ap (λ (t : DeepState). countsOf t (h .warmup)) from in
-        let two : r .measured ≡ countsOf (between schedule l d) (h .measured) = b .measured ∙ ap (λ (t : DeepState). countsOf (after t (h .warmup)) (h .measured)) from in
+        let end : stateWith (r .group) l′ d′ ≡ after (between schedule l d) (h .measured) = b .state ∙ ap (λ (t : State). after (after t (h .warmup)) (h .measured)) from in
+        let one : r .warmup ≡ countsOf (begins schedule l d) (h .warmup) = b .warmup ∙ ap (λ (t : State). countsOf t (h .warmup)) from in
+        let two : r .measured ≡ countsOf (between schedule l d) (h .measured) = b .measured ∙ ap (λ (t : State). countsOf (after t (h .warmup)) (h .measured)) from in
         λ k. ranTo (record { fault = b .fault k; warmup = one k; measured = two k; group = end k .group }) (end k .store) (end k .depths)
 
     any-schedule : ranTo r l′ d′ ≡ runBy (sound schedule) l d → SoundRan s l d r l′ d′
@@ -230,8 +230,8 @@ module _ (s : List ℕ) (n : ℕ) (vs : List ℕ) (p : Places) (h : FormGood s n
         fault = ef;
         warmup = ew ∙ ap refusedAll (sym (h .warmup-are .long)) ∙ sym (short-counts a (z .0) (z .1) (h .warmup));
         measured = em ∙ ap refusedAll (sym (h .measured-are .long)) ∙ sym (short-counts a (z .0) (z .1) (h .measured))
-            ∙ ap (λ (t : DeepState). countsOf t (h .measured)) (sym still);
-        state = sym (ap (λ (t : DeepState). after t (h .measured)) still ∙ short-state a (z .0) (z .1) (h .measured));
+            ∙ ap (λ (t : State). countsOf t (h .measured)) (sym still);
+        state = sym (ap (λ (t : State). after t (h .measured)) still ∙ short-state a (z .0) (z .1) (h .measured));
       }))
 
 -- ---- any file

@@ -8,8 +8,8 @@ use lib.Dec.{eqb}
 use lib.ListN.{length, getD, take}
 use Rattle.rules.specs.Limits.{greatestSize}
 use Rattle.rules.specs.Records.{Sized}
-use Rattle.rules.specs.DepthRun.{DeepState, after}
-use Rattle.rules.specs.Depths.{Ready}
+use Rattle.rules.specs.Step.{Ready}
+use Rattle.rules.specs.Run.{State, after}
 use Rattle.rules.specs.declared.group.Group.{Group}
 use Rattle.rules.specs.declared.step.Step.{Step}
 use Rattle.schedule.specs.Limits.{mostSteps}
@@ -190,7 +190,7 @@ pub record RunReady (s : List ℕ) (at count : ℕ) (g : Group) (l d : List ℕ)
   pub few : count ≤ mostSteps
 
 -- whatever steps stand there were taken
-abbrev pub stateWith : Group → List ℕ → List ℕ → DeepState
+abbrev pub stateWith : Group → List ℕ → List ℕ → State
 stateWith g l d = record { group = g; store = l; depths = d }
 
 pub record RanSteps (ss : List Step) (g : Group) (l d : List ℕ) (g′ : Group) (l′ d′ : List ℕ) (c : Counts) : Type 0 where

@@ -1,6 +1,5 @@
 -- What holds of every file that is read as a schedule, stated over the definition of the run that the contracts cite. The proofs are in proofs/Promise. Assumes nothing.
 use mathlib.Core.Path.{_≡_}
-use mathlib.Core.Bool.{true}
 use mathlib.Core.List.{List, _++_}
 use Prim.Native.Nat.{ℕ, _+_, _≤_}
 use lib.ListN.{length}
@@ -9,8 +8,7 @@ use Rattle.rules.specs.Tally.{count}
 use Rattle.rules.specs.Records.{processAt, depthAt}
 use Rattle.rules.specs.Store.{sentIn}
 use Rattle.rules.specs.Run.{startState}
-use Rattle.rules.specs.Safety.{Of, FirstValue, recoversOf}
-use Rattle.rules.specs.DepthRun.{Longest}
+use Rattle.rules.specs.Safety.{Of, Holds, FirstValue, recoversOf, Longest}
 use Rattle.rules.specs.declared.group.Group.{Group}
 use Rattle.schedule.specs.Schedule.{Schedule, readFile, sound}
 use Rattle.schedule.specs.Run.{Outcome, runOf}
@@ -24,13 +22,8 @@ AddsUp c = c .applied + c .idle + c .refused ≡ c .steps
 abbrev pub decidedIn : Group → ℕ
 decidedIn g = count (λ i. processAt g i .decided) (g .n)
 
--- process i of a group holds the decision v
-pub record Decided (g : Group) (i v : ℕ) : Type 0 where
-  pub decided : processAt g i .decided ≡ true
-  pub decision : processAt g i .decision ≡ v
-
--- of the schedule h and of all that its run over stores of at least 3,088 numbers, the first of which is l, yields
-pub record Promise (h : Schedule) (l : List ℕ) (o : Outcome) : Type 0 where
+-- of the schedule h and of all that its run over the stores l and d, of at least 3,088 numbers each, yields
+pub record Promise (h : Schedule) (l d : List ℕ) (o : Outcome) : Type 0 where
   -- both sections have as many steps as were read
   pub warmup : o .ran .warmup .steps ≡ length (h .warmup)
   pub measured : o .ran .measured .steps ≡ length (h .measured)
@@ -41,13 +34,14 @@ pub record Promise (h : Schedule) (l : List ℕ) (o : Outcome) : Type 0 where
   -- both *decided* together are the processes that hold a decision
   pub decided : decidedIn (o .ran .group) ≡ o .ran .warmup .decided + o .ran .measured .decided
   -- no two processes hold different decisions, and each is some process's first value
-  pub agreement : (i j v w : ℕ) → Of (h .values) i → Of (h .values) j → Decided (o .ran .group) i v → Decided (o .ran .group) j w → v ≡ w
-  pub validity : (i v : ℕ) → Of (h .values) i → Decided (o .ran .group) i v → FirstValue (h .values) v
+  pub agreement : (i j v w : ℕ) → Of (h .values) i → Of (h .values) j
+      → Holds (processAt (o .ran .group) i) v → Holds (processAt (o .ran .group) j) w → v ≡ w
+  pub validity : (i v : ℕ) → Of (h .values) i → Holds (processAt (o .ran .group) i) v → FirstValue (h .values) v
   -- the number of recoveries of each process counts the applied recovers of both sections
-  pub recoveries : (i : ℕ) → Of (h .values) i → processAt (o .ran .group) i .recoveries ≡ recoversOf i (startState (h .values) l) (h .warmup ++ h .measured)
+  pub recoveries : (i : ℕ) → Of (h .values) i → processAt (o .ran .group) i .recoveries ≡ recoversOf i (startState (h .values) l d) (h .warmup ++ h .measured)
   -- the depth of each process, which the last field of its line shows where it has decided, is the length of the longest chain of deliveries that ends at it
-  pub depths : (i : ℕ) → Of (h .values) i → Longest (h .values) l (h .warmup ++ h .measured) i (depthAt (o .ran .group) i)
+  pub depths : (i : ℕ) → Of (h .values) i → Longest (h .values) l d (h .warmup ++ h .measured) i (depthAt (o .ran .group) i)
 
 -- the promise of the program: every file that is read as a schedule keeps it
 abbrev pub Promised : Type 0
-Promised = (s l d : List ℕ) (h : Schedule) → readFile s ≡ sound h → storeLength ≤ length l → storeLength ≤ length d → Promise h l (runOf s l d)
+Promised = (s l d : List ℕ) (h : Schedule) → readFile s ≡ sound h → storeLength ≤ length l → storeLength ≤ length d → Promise h l d (runOf s l d)

@@ -1,9 +1,9 @@
--- The run of a schedule file: the rules' run with depths over the steps that were read, with the counts of its two sections. Assumes nothing.
+-- The run of a schedule file: the rules' run over the steps that were read, with the counts of its two sections. Assumes nothing.
 use mathlib.Core.Path.{_≡_}
 use mathlib.Core.List.{List}
 use Prim.Native.Nat.{ℕ}
 use Rattle.rules.specs.declared.step.Step.{Step}
-use Rattle.rules.specs.DepthRun.{DeepState, startState, after, answers}
+use Rattle.rules.specs.Run.{State, startState, after, answers}
 use Rattle.schedule.specs.Schedule.{Schedule, Reading, faulty, sound, readFile, noFault}
 use Rattle.rules.specs.Records.{blankGroup}
 use Rattle.schedule.specs.declared.fault.Fault.{Fault}
@@ -12,7 +12,7 @@ use Rattle.schedule.specs.declared.counts.Counts.{Counts}
 use Rattle.schedule.specs.declared.run.Ran.{Ran}
 
 -- the counts of a section whose steps are taken from the state a on
-unfoldable pub countsOf : DeepState → List Step → Counts
+unfoldable pub countsOf : State → List Step → Counts
 countsOf a ss = countedAll none (answers a ss)
 
 -- all that a run yields: what is answered, and the content of the lent store and of the lent depths
@@ -25,13 +25,13 @@ abbrev pub outcome : Ran → List ℕ → List ℕ → Outcome
 outcome r l d = record { ran = r; store = l; depths = d }
 
 -- the start, the state between the two sections, and the end
-abbrev pub begins : Schedule → List ℕ → List ℕ → DeepState
+abbrev pub begins : Schedule → List ℕ → List ℕ → State
 begins h l d = startState (h .values) l d
 
-abbrev pub between : Schedule → List ℕ → List ℕ → DeepState
+abbrev pub between : Schedule → List ℕ → List ℕ → State
 between h l d = after (begins h l d) (h .warmup)
 
-abbrev pub atEnd : Schedule → List ℕ → List ℕ → DeepState
+abbrev pub atEnd : Schedule → List ℕ → List ℕ → State
 atEnd h l d = after (between h l d) (h .measured)
 
 -- what is answered to a sound file: no fault, the counts of its two sections, and the group at the end

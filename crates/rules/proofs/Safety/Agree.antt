@@ -11,9 +11,11 @@ use Rattle.rules.specs.declared.step.Step.{Step}
 use Rattle.rules.specs.Limits.{storeLength}
 use Rattle.rules.specs.Records.{processAt}
 use Rattle.rules.specs.Store.{kindE, kindF, messageRound, cleared}
-use Rattle.rules.specs.Start.{fresh, startedTo, firstMessage, opened, begun}
-use Rattle.rules.specs.Run.{State, startState}
-use Rattle.rules.specs.Safety.{Begins, at, Of, Holds, Agreement, Validity}
+use Rattle.rules.specs.Start.{fresh, startedTo, firstMessage, opened}
+use Rattle.rules.specs.Safety.{Of, Holds}
+use Rattle.rules.proofs.Bare.Run.{State, startState}
+use Rattle.rules.proofs.Bare.Statements.{Begins, at, processOf, Agreement, Validity}
+use Rattle.rules.proofs.Bare.Step.{begun}
 use Rattle.rules.proofs.GroupLaws.{started-size, started-process}
 use Rattle.rules.proofs.StoreLaws.{cleared-length, cleared-below, entry-proposer, entry-value}
 use Rattle.rules.proofs.SoundLaws.{sound-facts}
@@ -119,7 +121,7 @@ module _ (vs : List ℕ) (a : State) (h : Safe vs a) (i : ℕ) (of : Of vs i) wh
   in-group = omega (arith, h .basic .size, of .high)
 
   -- its decision
-  holds-seen : (v : ℕ) → Holds a i v → view vs (a .group) (a .store) .proc i .dec ≡ some v
+  holds-seen : (v : ℕ) → Holds (processOf a i) v → view vs (a .group) (a .store) .proc i .dec ≡ some v
   unfolding decisionOf
   holds-seen v d =
       ap (λ (p : Process). decisionOf (p .decided) (p .decision))

@@ -9,11 +9,10 @@ use borrow.Author.Tests.{le-ltb}
 use Rattle.rules.specs.declared.step.Step.{Step}
 use Rattle.rules.specs.Limits.{greatestSize, storeLength}
 use Rattle.rules.specs.Records.{Sized}
-use Rattle.rules.specs.Refusals.{row, short, miscounted, damaged, startRefusalBy, startRefusal}
-use Rattle.rules.specs.Answers.{Outcome}
-use Rattle.rules.specs.Start.{started, begun}
-use Rattle.rules.specs.Run.{State, stateOf, startState, next, after}
-use Rattle.rules.specs.Safety.{Begins, at}
+use Rattle.rules.specs.Refusals.{row, short, miscounted}
+use Rattle.rules.proofs.Bare.Run.{State, stateOf, startState, next, after}
+use Rattle.rules.proofs.Bare.Statements.{Begins, at}
+use Rattle.rules.proofs.Bare.Step.{damaged, startRefusalBy, startRefusal, Outcome, started, begun}
 use Rattle.rules.proofs.RowLaws.{among-in}
 use Rattle.rules.proofs.GroupLaws.{started-size}
 use Rattle.rules.proofs.StoreLaws.{opened-length}

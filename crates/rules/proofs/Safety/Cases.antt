@@ -12,16 +12,15 @@ use Rattle.rules.specs.declared.process.Process.{Process}
 use Rattle.rules.specs.declared.process.Message.{Message}
 use Rattle.rules.specs.declared.process.Next.{Next}
 use Rattle.rules.specs.declared.step.Step.{Step}
-use Rattle.rules.specs.Step.{Course, Idles, Refuses, Takes}
+use Rattle.rules.specs.Step.{Course, Idles, Refuses, Takes, idles, orIdle, unlessRefused, handOvers}
+use Rattle.rules.proofs.Bare.Run.{State, next, after}
+use Rattle.rules.proofs.Bare.Step.{refusal, course, settled, stepped}
 use Rattle.rules.specs.Limits.{greatestSize, storeLength}
 use Rattle.rules.specs.Records.{processAt, withProcess, Sized}
 use Rattle.rules.specs.Store.{placeOf, entryFor, handOver}
 use Rattle.rules.specs.Events.{crashed, quiet, onCrash, cutIf}
 use Rattle.rules.specs.Steps.{takerOf, isCut, eventOf}
 use Rattle.rules.specs.Idle.{idle}
-use Rattle.rules.specs.Refusals.{refusal}
-use Rattle.rules.specs.Step.{idles, orIdle, unlessRefused, course, handOvers, settled, stepped}
-use Rattle.rules.specs.Run.{State, next, after}
 use Rattle.rules.proofs.StoreLaws.{IsMessage, place-lt, handOver-length, handing, own, other}
 use Rattle.rules.proofs.GroupLaws.{process-put, process-kept}
 use Rattle.rules.proofs.SoundLaws.{Passed, refusal-passed, Taking, Fine, course-fine}

@@ -15,19 +15,17 @@ use Rattle.rules.specs.declared.process.Message.the-variants.{Nothing, E
 use Rattle.rules.specs.declared.process.Next.{Next}
 use Rattle.rules.specs.declared.step.Step.{Step}
 use Rattle.rules.specs.declared.step.Step.the-variants.{DeliverE, DeliverS, DeliverF, DeliverDecision, Suspect, Pause, Crash, Recover}
-use Rattle.rules.specs.Step.{Course, Idles, Refuses, Takes}
+use Rattle.rules.specs.Depths.{deliveredDepth, raises, raised, depthAfter, datedIf, dated, datedBoth}
+use Rattle.rules.specs.Refusals.{refusal}
+use Rattle.rules.specs.Step.{Course, Idles, Refuses, Takes, idles, orIdle, unlessRefused, handOvers, course, settled, stepped}
+use Rattle.rules.specs.Run.{State, next, after, Handed, handed}
+use Rattle.rules.specs.Safety.{at, processDepth, messageDepth, says, Delivers, SentStays, senderOf, Link}
 use Rattle.rules.specs.Limits.{greatestSize, lastRound, storeLength}
-use Rattle.rules.specs.Records.{processAt, withProcess, depthAt, withDepth}
+use Rattle.rules.specs.Records.{processAt, withProcess, depthAt, withDepth, forgetting}
 use Rattle.rules.specs.Store.{placeOf, messageRound, entryFor, handOver}
 use Rattle.rules.specs.Events.{onCrash, cutIf}
 use Rattle.rules.specs.Steps.{takerOf, delivers, slotOf, isCut, eventOf}
 use Rattle.rules.specs.Idle.{idle}
-use Rattle.rules.specs.Step.{idles, orIdle, unlessRefused, handOvers}
-use Rattle.rules.specs.Step as base
-use Rattle.rules.specs.Depths.{deliveredDepth, raises, raised, depthAfter, datedIf, dated, datedBoth, refusal, course, deepened, datedBy, settled, stepped}
-use Rattle.rules.specs.Run.{Handed, handed}
-use Rattle.rules.specs.Safety.{Delivers}
-use Rattle.rules.specs.DepthRun.{DeepState, next, processDepth, messageDepth, applied, senderOf}
 use Rattle.rules.proofs.StoreLaws.{IsMessage, place-lt, own, other}
 use Rattle.rules.proofs.GroupLaws.{sized-with}
 use Rattle.rules.proofs.SoundLaws.{named-entry, Taking, Fine}
@@ -35,7 +33,10 @@ use Rattle.rules.proofs.DepthLaws.{DeepPassed, deep-passed, dating, dat
 use Rattle.rules.proofs.ForgetLaws.{depth-put, depth-kept, depth-with}
 use Rattle.rules.proofs.Safety.Cases.{never, handed-by}
 use Rattle.rules.proofs.Safety.Handing.{Addresses, place-delivered}
-use Rattle.rules.proofs.Safety.Depths.{DeepBasic, deep-fine}
+use Rattle.rules.proofs.Safety.Depths.{DeepBasic, deep-fine, next-forgets, deep-throughout, deep-basic}
+use Rattle.rules.proofs.Safety.Entries.{step-stays}
+use Rattle.rules.proofs.Bare.Run.{State as Bare}
+use Rattle.rules.proofs.Bare.Run as run
 
 -- ---- the course
 
@@ -60,13 +61,7 @@ module _ (P : Course → Type 0) (g : Group) (l d : List ℕ) (s : Step) where
 
 -- ---- the depth of a process
 
--- the step is a delivery that is applied and is no cut idle one
-pub record Heard (a : DeepState) (s : Step) : Type 0 where
-  pub delivery : delivers s ≡ true
-  pub taken : applied a s ≡ true
-  pub not-idle : idle (a .group) s ≡ false
-
-module _ (vs : List ℕ) (a : DeepState) (h : DeepBasic vs a) (s : Step) where
+module _ (vs : List ℕ) (a : State) (h : DeepBasic vs a) (s : Step) where
   abbrev g : Group
   g = a .group
 
@@ -95,20 +90,20 @@ module _ (vs : List ℕ) (a : DeepState) (h : DeepBasic vs a) (s : Step) where
       depth-kept (withProcess g (takerOf s) (x .process)) (takerOf s) k i (t .low) lo ne ∙ depth-with g (takerOf s) (x .process) i (t .small)
 
   -- "A delivery that is not idle raises the receiver's depth to the message's depth plus one, if that is more"
-  pub depth-heard : Heard a s → processDepth (next a s) (takerOf s) ≡ max (processDepth a (takerOf s)) (messageDepth a (slotOf s) + 1)
-  unfolding next stepped settled base.settled deepened deliveredDepth
+  pub depth-heard : Link a s → processDepth (next a s) (takerOf s) ≡ max (processDepth a (takerOf s)) (messageDepth a (slotOf s) + 1)
+  unfolding next stepped settled deliveredDepth
   depth-heard e =
       deep-by P g l d s (λ f t. never refl t) (λ k f t. never refl t) (λ p i f t. never (e .not-idle) i)
       (λ p i f t. own-depth (cutIf (isCut s) (eventOf g l s)) f (depthAfter g d s) ∙ after-heard (e .delivery) (e .not-idle))
-      (deep-fine vs a h s) (e .taken)
+      (deep-fine vs a h s) (e .applied)
     where
       P : Course → Type 0
-      P c = Fine (g .n) c → base.settled g l c .says .applied ≡ true
-          → depthAt (deepened (depthAfter g d s) c (base.settled g l c .group)) (takerOf s) ≡ max (processDepth a (takerOf s)) (messageDepth a (slotOf s) + 1)
+      P c = Fine (g .n) c → settled g l d (depthAfter g d s) c .says .applied ≡ true
+          → depthAt (settled g l d (depthAfter g d s) c .group) (takerOf s) ≡ max (processDepth a (takerOf s)) (messageDepth a (slotOf s) + 1)
 
   -- no other step changes it
-  pub depth-unheard : (i : ℕ) → 1 ≤ i → (Heard a s → takerOf s ≢ i) → processDepth (next a s) i ≡ processDepth a i
-  unfolding next stepped settled base.settled deepened
+  pub depth-unheard : (i : ℕ) → 1 ≤ i → (Link a s → takerOf s ≢ i) → processDepth (next a s) i ≡ processDepth a i
+  unfolding next stepped settled
   depth-unheard i lo unless =
       deep-by P g l d s (λ f t. refl) (λ k f t. refl)
       (λ p e f t. put (onCrash (processAt g (takerOf s))) f (λ z. after-unheard (rw e (and-no (delivers s)))))
@@ -116,8 +111,8 @@ module _ (vs : List ℕ) (a : DeepState) (h : DeepBasic vs a) (s : Step) where
       (deep-fine vs a h s) (λ r. r)
     where
       P : Course → Type 0
-      P c = Fine (g .n) c → (base.settled g l c .says .applied ≡ true → applied a s ≡ true)
-          → depthAt (deepened (depthAfter g d s) c (base.settled g l c .group)) i ≡ depthAt g i
+      P c = Fine (g .n) c → (settled g l d (depthAfter g d s) c .says .applied ≡ true → says a s .applied ≡ true)
+          → depthAt (settled g l d (depthAfter g d s) c .group) i ≡ depthAt g i
 
       and-no : (b : Bool) → (b && false) ≡ false
       and-no true = refl
@@ -133,8 +128,8 @@ module _ (vs : List ℕ) (a : DeepState) (h : DeepBasic vs a) (s : Step) where
               ∙ own-depth x t (depthAfter g d s) ∙ same e ∙ ap (depthAt g) (sym e)
           by (no ne) = other-depth x t (depthAfter g d s) i lo ne
 
-      go : i ≡ takerOf s → (b : Bool) → delivers s ≡ b → (true ≡ true → applied a s ≡ true) → idle g s ≡ false → depthAfter g d s ≡ depthAt g (takerOf s)
-      go z true e t f = absurd (unless (record { delivery = e; taken = t refl; not-idle = f }) (sym z))
+      go : i ≡ takerOf s → (b : Bool) → delivers s ≡ b → (true ≡ true → says a s .applied ≡ true) → idle g s ≡ false → depthAfter g d s ≡ depthAt g (takerOf s)
+      go z true e t f = absurd (unless (record { delivery = e; applied = t refl; not-idle = f }) (sym z))
       go z false e t f = after-unheard (rw e)
 
 -- ---- the depth of a message
@@ -225,10 +220,10 @@ delivered-sender (Pause t) i m e = absurd e
 delivered-sender (Crash t) i m e = absurd e
 delivered-sender (Recover t) i m e = absurd e
 
-module _ (vs : List ℕ) (a : DeepState) (h : DeepBasic vs a) (s : Step) where
+module _ (vs : List ℕ) (a : State) (h : DeepBasic vs a) (s : Step) where
   -- "later handings over keep the first depth"
   pub message-kept : (q : ℕ) → getD (a .store) q 0 ≢ 0 → messageDepth (next a s) q ≡ messageDepth a q
-  unfolding next stepped settled datedBy
+  unfolding next stepped settled
   message-kept q ne =
       deep-by P (a .group) (a .store) (a .depths) s (λ f. refl) (λ k f. refl)
       (λ p e f. both-sent (a .group .n) (takerOf s) (onCrash (processAt (a .group) (takerOf s))) (depthAfter (a .group) (a .depths) s) (a .store) (a .depths) f (h .basic .long) (h .deep-long) q ne)
@@ -236,12 +231,12 @@ module _ (vs : List ℕ) (a : DeepState) (h : DeepBasic vs a) (s : Step) where
       (deep-fine vs a h s)
     where
       P : Course → Type 0
-      P c = Fine (a .group .n) c → getD (datedBy (depthAfter (a .group) (a .depths) s) c (a .store) (a .depths)) q 0 ≡ messageDepth a q
+      P c = Fine (a .group .n) c → getD (settled (a .group) (a .store) (a .depths) (depthAfter (a .group) (a .depths) s) c .depths) q 0 ≡ messageDepth a q
 
   -- "A message first handed over (its entry was 0) gets the sender's depth after the step"
   pub message-new : (q : ℕ) → getD (a .store) q 0 ≡ 0 → getD (next a s .store) q 0 ≢ 0
       → HandsOver (a .group .n) (takerOf s) q × (messageDepth (next a s) q ≡ processDepth (next a s) (takerOf s))
-  unfolding next stepped settled base.settled deepened datedBy
+  unfolding next stepped settled
   message-new q z =
       deep-by P (a .group) (a .store) (a .depths) s (λ f ne. absurd (ne z)) (λ k f ne. absurd (ne z))
       (λ p e f ne. put (onCrash (processAt (a .group) (takerOf s))) f ne)
@@ -252,9 +247,9 @@ module _ (vs : List ℕ) (a : DeepState) (h : DeepBasic vs a) (s : Step) where
       k = depthAfter (a .group) (a .depths) s
 
       P : Course → Type 0
-      P c = Fine (a .group .n) c → getD (base.settled (a .group) (a .store) c .store) q 0 ≢ 0
+      P c = Fine (a .group .n) c → getD (settled (a .group) (a .store) (a .depths) k c .store) q 0 ≢ 0
           → HandsOver (a .group .n) (takerOf s) q
-          × (getD (datedBy k c (a .store) (a .depths)) q 0 ≡ depthAt (deepened k c (base.settled (a .group) (a .store) c .group)) (takerOf s))
+          × (getD (settled (a .group) (a .store) (a .depths) k c .depths) q 0 ≡ depthAt (settled (a .group) (a .store) (a .depths) k c .group) (takerOf s))
 
       put : (x : Next) → Taking (a .group .n) (takerOf s) x → getD (handOvers (takerOf s) x (a .store)) q 0 ≢ 0
           → HandsOver (a .group .n) (takerOf s) q
@@ -266,3 +261,18 @@ module _ (vs : List ℕ) (a : DeepState) (h : DeepBasic vs a) (s : Step) where
   -- such a message is delivered as one of the process that took the step
   pub handed-sender : (t : Step) → Addresses t → HandsOver (a .group .n) (takerOf s) (slotOf t) → senderOf t ≡ takerOf s
   handed-sender t ad o = delivered-sender t (takerOf s) (o .message) (place-delivered t (takerOf s) (o .message) ad (o .low) (o .small) (o .round) (o .is) (o .place))
+
+  -- what is sent stays sent
+  pub sent-next : (q : ℕ) → getD (a .store) q 0 ≢ 0 → getD (next a s .store) q 0 ≢ 0
+  unfolding run.next
+  sent-next q ne =
+      subst (λ (c : Bare). getD (c .store) q 0 ≢ 0) (sym (next-forgets vs a h s)) (step-stays (forgetting (a .group)) (a .store) s q (h .basic .long) ne)
+
+pub sent-after : (vs : List ℕ) (a : State) (ts : List Step) → DeepBasic vs a → (q : ℕ) → getD (a .store) q 0 ≢ 0
+    → (getD (after a ts .store) q 0 ≢ 0) × (messageDepth (after a ts) q ≡ messageDepth a q)
+sent-after vs a ts h q ne =
+    deep-throughout vs (λ (c : State). (getD (c .store) q 0 ≢ 0) × (messageDepth c q ≡ messageDepth a q))
+    (λ c s k p. (sent-next vs c k s q (p .0), message-kept vs c k s q (p .0) ∙ p .1)) a ts h (ne, refl)
+
+pub sent-stays : SentStays
+sent-stays vs l d ss b ts k lt ne = sent-after vs (at vs l d ss) ts (deep-basic vs l d ss b) k ne

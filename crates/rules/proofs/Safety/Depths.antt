@@ -15,24 +15,27 @@ use Rattle.rules.specs.declared.process.Process.{Process}
 use Rattle.rules.specs.declared.process.Message.{Message}
 use Rattle.rules.specs.declared.process.Next.{Next}
 use Rattle.rules.specs.declared.step.Step.{Step}
-use Rattle.rules.specs.Step.{Course, Idles, Refuses, Takes}
+use Rattle.rules.specs.Records.{forgetting}
+use Rattle.rules.specs.Depths.{deliveredDepth, raises, raised, depthAfter, dated, datedBoth}
+use Rattle.rules.specs.Refusals.{row, every, short, miscounted, strange, late, damaged, tooDeep, refusal, startRefusal}
+use Rattle.rules.specs.Answers.{Said, saysApplied}
+use Rattle.rules.specs.Start.{startedTo, firstMessage, opened, openedDepths, unlessRefusedStart, started}
+use Rattle.rules.specs.Step.{Course, Idles, Refuses, Takes, idles, orIdle, unlessRefused, handOvers, sentBy, decidesNow, course, settled, stepped, Ready}
+use Rattle.rules.specs.Run.{State, stateOf, startState, next, after, answers}
+use Rattle.rules.specs.Safety.{Begins, at, processDepth, messageDepth, says, SoundGroup, NeverDamaged, WithinLimits, DepthsChangeNothing, DepthsFit}
+use Rattle.rules.proofs.Bare.Run.{State as Bare, forgotten}
+use Rattle.rules.proofs.Bare.Step.{refusalBy, startRefusalBy, begun}
 use Rattle.rules.specs.Limits.{greatestSize, storeLength, deepestMessage, among}
 use Rattle.rules.specs.Records.{processAt, withProcess, depthAt, withDepth, Sized}
 use Rattle.rules.specs.Store.{placeOf, handOver, turned, cleared, sentIn}
-use Rattle.rules.specs.Answers.{Said, saysApplied}
 use Rattle.rules.specs.Steps.{takerOf, numbersOf, delivers, slotOf, isCut, eventOf}
 use Rattle.rules.specs.Idle.{idle}
-use Rattle.rules.specs.Refusals.{row, every, short, miscounted, strange, late, refusalBy, startRefusalBy}
-use Rattle.rules.specs.Refusals as table
-use Rattle.rules.specs.Start.{firstMessage, begun}
-use Rattle.rules.specs.Step.{idles, orIdle, unlessRefused, handOvers, sentBy, decidesNow}
-use Rattle.rules.specs.Step as base
+use Rattle.rules.proofs.Bare.Step as base
 use Rattle.rules.specs.Parts.{numberRows}
-use Rattle.rules.specs.Depths.{deliveredDepth, raises, raised, depthAfter, dated, datedBoth, damaged, tooDeep, refusal, opened, unlessRefusedStart, startRefusal, started, course, deepened, datedBy, settled, stepped, Ready}
-use Rattle.rules.specs.Run.{State}
-use Rattle.rules.specs.Run as run
-use Rattle.rules.specs.Safety as safety
-use Rattle.rules.specs.DepthRun.{DeepState, stateOf, startState, next, after, answers, DeepBegins, at, processDepth, messageDepth, forgetting, forgotten, DepthsChangeNothing, AnswersStay, DepthsFit, NeverFourteen, PastDepthsKept}
+use Rattle.rules.proofs.Bare.Run as run
+use Rattle.rules.proofs.Bare.Statements as bare
+use Rattle.rules.proofs.Bare.Same.{limits-fine}
+use Rattle.rules.proofs.Bare.Same as same
 use Rattle.rules.proofs.StoreLaws.{place-lt, own, other, opened-sent, cleared-length, cleared-below, cleared-past}
 use Rattle.rules.proofs.RowLaws.{among-in}
 use Rattle.rules.proofs.GroupLaws.{sized-with, sized-started, started-size}
@@ -64,27 +67,21 @@ sent-most (e ∷ l) zero = omega arith
 sent-most (zero ∷ l) (suc n) = omega (arith, sent-most l n)
 sent-most (suc e ∷ l) (suc n) = omega (arith, sent-most l n)
 
+-- ---- a run without depths begins so too
+
+pub bare-begins : {vs l d : List ℕ} → Begins vs l d → bare.Begins vs l
+bare-begins b = record { some = b .some; few = b .few; small = b .small; long = b .long }
+
 -- ---- what every state of a run is
 
-pub record DeepBasic (vs : List ℕ) (a : DeepState) : Type 0 where
+pub record DeepBasic (vs : List ℕ) (a : State) : Type 0 where
   pub basic : Basic vs (forgotten a)
   pub sized : Sized (a .group)
   pub deep-long : storeLength ≤ length (a .depths)
   pub messages : (k : ℕ) → k < storeLength → messageDepth a k + 1 ≤ sentIn (a .store) storeLength
   pub processes : (i : ℕ) → 1 ≤ i → i ≤ a .group .n → processDepth a i ≤ sentIn (a .store) storeLength
 
--- the rows of the table do not look past 3 and 4 where one of them refuses
-rows-same : (t u w : Bool) (g : Group) (l : List ℕ) (s : Step) → (numberRows (g .n) s ≡ 0 → w ≡ false) → refusalBy t u w g l s ≡ refusalBy t u false g l s
-unfolding refusalBy numberRows strange row
-rows-same t u w g l s h = go (not (every (among (g .n)) (numbersOf s))) (late s) refl refl
-  where
-    go : (x y : Bool) → not (every (among (g .n)) (numbersOf s)) ≡ x → late s ≡ y → refusalBy t u w g l s ≡ refusalBy t u false g l s
-    go true y e f = rw e
-    go false true e f = rw (e, f)
-    go false false e f = ap (λ (v : Bool). refusalBy t u v g l s) (h (rw (e, f)))
-
-module _ (vs : List ℕ) (a : DeepState) (h : DeepBasic vs a) where
-  -- the group, sound with and without its depths
+module _ (vs : List ℕ) (a : State) (h : DeepBasic vs a) where
   pub deep-size : a .group .n ≡ length vs
   unfolding forgetting
   deep-size = h .basic .size
@@ -104,103 +101,30 @@ module _ (vs : List ℕ) (a : DeepState) (h : DeepBasic vs a) where
             subst (λ (p : Process). Whole (a .group .n) p) (process-forgets (a .group) i (h .sized) (le-trans hi (f .high))) (f .each i lo hi);
       }
 
-  pub deep-ready : Ready (a .group) (a .store) (a .depths)
-  deep-ready =
+  -- its depths are within the limits
+  pub deep-limits : WithinLimits a
+  deep-limits =
+      let most = sent-most (a .store) storeLength in
       record {
-        long = h .basic .long;
-        deep-long = h .deep-long;
-        sound = facts-deep (a .group) deep-whole (λ i lo hi. omega (arith, h .processes i lo hi, sent-most (a .store) storeLength));
+        sized = h .sized;
+        ready =
+            record {
+              long = h .basic .long;
+              deep-long = h .deep-long;
+              sound = facts-deep (a .group) deep-whole (λ i lo hi. omega (arith, h .processes i lo hi, most));
+            };
+        messages = λ k lt. omega (arith, h .messages k lt, most);
       }
-
-  forgotten-ready : Ready (forgetting (a .group)) (a .store) (a .depths)
-  forgotten-ready =
-      let f = sound-facts (forgetting (a .group)) (h .basic .sound) in
-      record {
-        long = h .basic .long;
-        deep-long = h .deep-long;
-        sound =
-            facts-deep (forgetting (a .group)) f
-            (λ i lo hi. omega (arith, depth-forgets (a .group) i (h .sized) lo (le-trans hi (f .high))));
-      }
-
-  -- no delivered message is too deep
-  pub not-deep : (s : Step) → numberRows (a .group .n) s ≡ 0 → tooDeep (a .depths) s ≡ false
-  unfolding tooDeep deliveredDepth
-  not-deep s z =
-      let lt = place-low (a .group .n) s deep-few z in
-      let le : getD (a .depths) (slotOf s) 0 ≤ deepestMessage = omega (arith, h .messages (slotOf s) lt, sent-most (a .store) storeLength) in
-      go (delivers s) le
-    where
-      go : (t : Bool) → getD (a .depths) (slotOf s) 0 ≤ deepestMessage → (t && ltb deepestMessage (getD (a .depths) (slotOf s) 0)) ≡ false
-      go true le = le-ltb deepestMessage (getD (a .depths) (slotOf s) 0) le
-      go false le = refl
-
-  -- the new rows of the table do not refuse
-  same-refusal : (g : Group) (s : Step) → g .n ≡ a .group .n → damaged g ≡ false → refusal g (a .store) (a .depths) s ≡ table.refusal g (a .store) s
-  unfolding refusal table.refusal short
-  same-refusal g s e f =
-      let l = a .store in
-      rows-same (ltb (length (a .depths)) storeLength) (damaged g) (tooDeep (a .depths) s) g l s (λ z. not-deep s (ap (λ (n : ℕ). numberRows n s) (sym e) ∙ z))
-      ∙ ap₂ (λ (t u : Bool). refusalBy t u false g l s) (le-ltb (length (a .depths)) storeLength (h .deep-long)) (f ∙ sym (deep-sound g f))
-
-  -- the course is that of the group without depths
-  pub course-same : (s : Step) → course (a .group) (a .store) (a .depths) s ≡ base.course (forgetting (a .group)) (a .store) s
-  unfolding course base.course forgetting
-  course-same s =
-      go (numberRows (a .group .n) s) refl
-      ∙ ap (λ (k : ℕ). unlessRefused k (forgetting (a .group)) (a .store) s) (same-refusal (forgetting (a .group)) s refl (forgotten-ready .sound))
-    where
-      go : (k : ℕ) → numberRows (a .group .n) s ≡ k → course (a .group) (a .store) (a .depths) s ≡ course (forgetting (a .group)) (a .store) (a .depths) s
-      go zero z =
-          let t = taker-low (a .group .n) s z in
-          sym (held-course (a .group) (a .store) (a .depths) s deep-ready z refl refl refl (process-forgets (a .group) (takerOf s) (h .sized) (le-trans (t .1) deep-few)))
-          ∙ held-course (forgetting (a .group)) (a .store) (a .depths) s forgotten-ready z refl refl refl refl
-      go (suc k) z =
-          sym (numbers-refuse (a .group) (a .store) (a .depths) s deep-ready z (λ b. omega arith))
-          ∙ numbers-refuse (forgetting (a .group)) (a .store) (a .depths) s forgotten-ready z (λ b. omega arith)
 
   pub deep-fine : (s : Step) → Fine (a .group .n) (course (a .group) (a .store) (a .depths) s)
-  unfolding forgetting
-  deep-fine s = subst (λ (c : Course). Fine (a .group .n) c) (sym (course-same s)) (course-fine (forgetting (a .group)) (a .store) s)
+  deep-fine = limits-fine a deep-limits
 
--- ---- the outcome of a course, with the depths forgotten
-
-record Forgets (g : Group) (l : List ℕ) (k : ℕ) (c : Course) : Type 0 where
-  group : forgetting (deepened k c (base.settled g l c .group)) ≡ base.settled (forgetting g) l c .group
-  store : base.settled g l c .store ≡ base.settled (forgetting g) l c .store
-  says : base.settled g l c .says ≡ base.settled (forgetting g) l c .says
-
-settled-forgets : (g : Group) (l : List ℕ) (k : ℕ) (c : Course) → Sized g → Fine (g .n) c → Forgets g l k c
-unfolding deepened base.settled
-settled-forgets g l k Idles s f = record { group = refl; store = refl; says = refl }
-settled-forgets g l k (Refuses n) s f = record { group = refl; store = refl; says = refl }
-settled-forgets g l k (Takes i x) s f =
-    record {
-      group = forget-deep (withProcess g i (x .process)) i k ∙ forget-with g i (x .process) s (f .low) (f .small);
-      store = refl;
-      says =
-          ap (λ (p : Process). saysApplied (sentBy i x l) (decidesNow p (x .process)))
-          (sym (process-forgets g i s (f .small)));
-    }
-
-module _ (vs : List ℕ) (a : DeepState) (h : DeepBasic vs a) (s : Step) where
-  forgets-at : Forgets (a .group) (a .store) (depthAfter (a .group) (a .depths) s) (course (a .group) (a .store) (a .depths) s)
-  forgets-at = settled-forgets (a .group) (a .store) (depthAfter (a .group) (a .depths) s) (course (a .group) (a .store) (a .depths) s) (h .sized) (deep-fine vs a h s)
-
-  -- a step with depths is the step of before, with the depths forgotten
+module _ (vs : List ℕ) (a : State) (h : DeepBasic vs a) (s : Step) where
   pub next-forgets : forgotten (next a s) ≡ run.next (forgotten a) s
-  unfolding next stepped settled run.next base.stepped
-  next-forgets =
-      let e = course-same vs a h s in
-      λ t.
-      record {
-        group = (forgets-at .group ∙ ap (λ (c : Course). base.settled (forgetting (a .group)) (a .store) c .group) e) t;
-        store = (forgets-at .store ∙ ap (λ (c : Course). base.settled (forgetting (a .group)) (a .store) c .store) e) t;
-      }
+  next-forgets = same.next-forgets a (deep-limits vs a h) s
 
-  pub says-forgets : stepped (a .group) (a .store) (a .depths) s .says ≡ base.stepped (forgetting (a .group)) (a .store) s .says
-  unfolding stepped settled base.stepped
-  says-forgets = forgets-at .says ∙ ap (λ (c : Course). base.settled (forgetting (a .group)) (a .store) c .says) (course-same vs a h s)
+  pub says-forgets : says a s ≡ base.stepped (forgetting (a .group)) (a .store) s .says
+  says-forgets = same.says-forgets a (deep-limits vs a h) s
 
   -- the depth that a process gets is at most the count of sent entries
   raised-most : (t : Bool) (m k b : ℕ) → (t ≡ true → m + 1 ≤ b) → k ≤ b → raised t m k ≤ b
@@ -216,7 +140,7 @@ module _ (vs : List ℕ) (a : DeepState) (h : DeepBasic vs a) (s : Step) where
     processes : (i : ℕ) → 1 ≤ i → i ≤ a .group .n → depthAt (settled (a .group) (a .store) (a .depths) k c .group) i ≤ sentIn (settled (a .group) (a .store) (a .depths) k c .store) storeLength
 
   grown : (c : Course) (k : ℕ) → Fine (a .group .n) c → ((i : ℕ) (x : Next) → c ≡ Takes i x → k ≤ sentIn (a .store) storeLength) → Grown c k
-  unfolding settled base.settled deepened datedBy datedBoth sentBy
+  unfolding settled datedBoth sentBy
   grown Idles k f le = record { sized = h .sized; deep-long = h .deep-long; messages = h .messages; processes = h .processes }
   grown (Refuses n) k f le = record { sized = h .sized; deep-long = h .deep-long; messages = h .messages; processes = h .processes }
   grown (Takes i x) k f most =
@@ -285,17 +209,17 @@ module _ (vs : List ℕ) (a : DeepState) (h : DeepBasic vs a) (s : Step) where
       grown (course (a .group) (a .store) (a .depths) s) (depthAfter (a .group) (a .depths) s) (deep-fine vs a h s) after-most
 
   same-size : next a s .group .n ≡ a .group .n
-  unfolding next stepped settled base.settled deepened withDepth withProcess
+  unfolding next stepped settled withDepth withProcess
   same-size = go (course (a .group) (a .store) (a .depths) s)
     where
-      go : (c : Course) → deepened (depthAfter (a .group) (a .depths) s) c (base.settled (a .group) (a .store) c .group) .n ≡ a .group .n
+      go : (c : Course) → settled (a .group) (a .store) (a .depths) (depthAfter (a .group) (a .depths) s) c .group .n ≡ a .group .n
       go Idles = refl
       go (Refuses k) = refl
       go (Takes i x) = refl
 
   -- so every step keeps what every state of a run is
   pub deep-next : DeepBasic vs (next a s)
-  unfolding next stepped settled
+  unfolding next stepped
   deep-next =
       record {
         basic = subst (Basic vs) (sym next-forgets) (basic-next vs (forgotten a) s (h .basic));
@@ -307,14 +231,14 @@ module _ (vs : List ℕ) (a : DeepState) (h : DeepBasic vs a) (s : Step) where
 
 -- ---- the start
 
-pub not-refused-deep : (vs l d : List ℕ) → DeepBegins vs l d → startRefusal vs l d ≡ 0
-unfolding startRefusal startRefusalBy row short miscounted
+pub not-refused-deep : (vs l d : List ℕ) → Begins vs l d → startRefusal vs l d ≡ 0
+unfolding startRefusal row short miscounted
 not-refused-deep vs l d b =
-    rw (le-ltb (length l) storeLength (b .begins .long), le-ltb (length d) storeLength (b .long), among-in greatestSize (length vs) (b .begins .some) (b .begins .few))
+    rw (le-ltb (length l) storeLength (b .long), le-ltb (length d) storeLength (b .deep-long), among-in greatestSize (length vs) (b .some) (b .few))
 
 -- the depths of its messages are 0
-opened-below : (v : ℕ) (l d : List ℕ) → storeLength ≤ length d → (q : ℕ) → q < storeLength → getD (opened v l d) q 0 ≡ 0
-unfolding opened placeOf
+opened-below : (v : ℕ) (l d : List ℕ) → storeLength ≤ length d → (q : ℕ) → q < storeLength → getD (openedDepths v l d) q 0 ≡ 0
+unfolding openedDepths placeOf
 opened-below v l d long q lt =
     dating (λ (e : List ℕ) (t : ℕ). getD e q 0 ≡ 0) 1 (firstMessage v) 0 (cleared storeLength l) (cleared storeLength d)
     (cleared-below storeLength d q lt) (λ is z. go (ℕ-discrete q 0))
@@ -323,81 +247,93 @@ opened-below v l d long q lt =
     go (yes e) = ap (λ (p : ℕ). getD (set (cleared storeLength d) 0 0) p 0) e ∙ own (cleared storeLength d) 0 0 (omega (arith, cleared-length storeLength d long))
     go (no ne) = other (cleared storeLength d) 0 0 q ne ∙ cleared-below storeLength d q lt
 
-module _ (vs l d : List ℕ) (b : DeepBegins vs l d) where
-  pub start-deep : startState vs l d ≡ record { group = begun vs l .group; store = begun vs l .store; depths = opened (getD vs 0 0) l d }
-  unfolding startState started unlessRefusedStart
+module _ (vs l d : List ℕ) (b : Begins vs l d) where
+  pub start-deep : startState vs l d ≡ record { group = startedTo vs (length vs); store = opened (getD vs 0 0) l; depths = openedDepths (getD vs 0 0) l d }
+  unfolding startState started unlessRefusedStart begun
   start-deep = ap (λ (k : ℕ). stateOf (unlessRefusedStart k vs l d)) (not-refused-deep vs l d b)
 
   pub start-forgets : forgotten (startState vs l d) ≡ run.startState vs l
   unfolding begun
   start-forgets =
-      ap forgotten start-deep ∙ ap (λ (g : Group). record { group = g; store = begun vs l .store }) (forget-started vs (length vs) (b .begins .few))
-      ∙ sym (start-is vs l (b .begins))
+      ap forgotten start-deep ∙ ap (λ (g : Group). record { group = g; store = begun vs l .store }) (forget-started vs (length vs) (b .few))
+      ∙ sym (start-is vs l (bare-begins b))
 
   pub deep-start : DeepBasic vs (startState vs l d)
-  unfolding begun opened
+  unfolding begun openedDepths
   deep-start =
-      subst (λ (a : DeepState). forgotten a ≡ run.startState vs l → DeepBasic vs a) (sym start-deep)
+      subst (λ (a : State). forgotten a ≡ run.startState vs l → DeepBasic vs a) (sym start-deep)
       (λ e.
       record {
-        basic = subst (Basic vs) (sym e) (basic-start vs l (b .begins));
+        basic = subst (Basic vs) (sym e) (basic-start vs l (bare-begins b));
         sized = sized-started vs (length vs);
-        deep-long = omega (arith, opened-deep-length, b .long);
-        messages = λ q lt. omega (arith, opened-below (getD vs 0 0) l d (b .long) q lt, opened-sent (getD vs 0 0) l (b .begins .long));
+        deep-long = omega (arith, opened-deep-length, b .deep-long);
+        messages = λ q lt. omega (arith, opened-below (getD vs 0 0) l d (b .deep-long) q lt, opened-sent (getD vs 0 0) l (b .long));
         processes = λ i lo hi.
-            omega (arith, depth-started vs (length vs) i (b .begins .few) (omega (arith, started-size vs (length vs), b .begins .few)), hi);
+            omega (arith, depth-started vs (length vs) i (b .few) (omega (arith, started-size vs (length vs), b .few)), hi);
       })
       start-forgets
     where
-      opened-deep-length : length (opened (getD vs 0 0) l d) ≡ length d
+      opened-deep-length : length (openedDepths (getD vs 0 0) l d) ≡ length d
       opened-deep-length =
-          dated-length 1 (firstMessage (getD vs 0 0)) 0 (cleared storeLength l) (cleared storeLength d) ∙ cleared-length storeLength d (b .long)
+          dated-length 1 (firstMessage (getD vs 0 0)) 0 (cleared storeLength l) (cleared storeLength d) ∙ cleared-length storeLength d (b .deep-long)
 
 -- ---- every state of a run
 
 -- what each step keeps is kept from any state of a run on
-pub deep-throughout : (vs : List ℕ) (P : DeepState → Type 0) → ((a : DeepState) (s : Step) → DeepBasic vs a → P a → P (next a s))
-    → (a : DeepState) (ss : List Step) → DeepBasic vs a → P a → P (after a ss)
+pub deep-throughout : (vs : List ℕ) (P : State → Type 0) → ((a : State) (s : Step) → DeepBasic vs a → P a → P (next a s))
+    → (a : State) (ss : List Step) → DeepBasic vs a → P a → P (after a ss)
 unfolding after
 deep-throughout vs P step a [] h p = p
 deep-throughout vs P step a (s ∷ ss) h p = deep-throughout vs P step (next a s) ss (deep-next vs a h s) (step a s h p)
 
-pub deep-basic-after : (vs : List ℕ) (a : DeepState) (ss : List Step) → DeepBasic vs a → DeepBasic vs (after a ss)
+pub deep-basic-after : (vs : List ℕ) (a : State) (ss : List Step) → DeepBasic vs a → DeepBasic vs (after a ss)
 unfolding after
 deep-basic-after vs a [] h = h
 deep-basic-after vs a (s ∷ ss) h = deep-basic-after vs (next a s) ss (deep-next vs a h s)
 
-pub deep-basic : (vs l d : List ℕ) (ss : List Step) → DeepBegins vs l d → DeepBasic vs (at vs l d ss)
+pub deep-basic : (vs l d : List ℕ) (ss : List Step) → Begins vs l d → DeepBasic vs (at vs l d ss)
 deep-basic vs l d ss b = deep-basic-after vs (startState vs l d) ss (deep-start vs l d b)
 
 -- a list of steps in two parts
-pub deep-more : (a : DeepState) (ss ts : List Step) → after a (ss ++ ts) ≡ after (after a ss) ts
+pub deep-more : (a : State) (ss ts : List Step) → after a (ss ++ ts) ≡ after (after a ss) ts
 unfolding after
 deep-more a [] ts = refl
 deep-more a (s ∷ ss) ts = deep-more (next a s) ss ts
 
 -- ---- statement 10
 
-pub after-forgets : (vs : List ℕ) (a : DeepState) (ss : List Step) → DeepBasic vs a → forgotten (after a ss) ≡ run.after (forgotten a) ss
+pub after-forgets : (vs : List ℕ) (a : State) (ss : List Step) → DeepBasic vs a → forgotten (after a ss) ≡ run.after (forgotten a) ss
 unfolding after run.after
 after-forgets vs a [] h = refl
 after-forgets vs a (s ∷ ss) h =
-    after-forgets vs (next a s) ss (deep-next vs a h s) ∙ ap (λ (b : State). run.after b ss) (next-forgets vs a h s)
+    after-forgets vs (next a s) ss (deep-next vs a h s) ∙ ap (λ (b : Bare). run.after b ss) (next-forgets vs a h s)
+
+-- every state of a run is one of the run without depths, with its depths forgotten
+pub run-forgets : (vs l d : List ℕ) (ss : List Step) → Begins vs l d → forgotten (at vs l d ss) ≡ bare.at vs l ss
+run-forgets vs l d ss b =
+    after-forgets vs (startState vs l d) ss (deep-start vs l d b) ∙ ap (λ (a : Bare). run.after a ss) (start-forgets vs l d b)
 
 pub depths-change-nothing : DepthsChangeNothing
-depths-change-nothing vs l d ss b =
-    after-forgets vs (startState vs l d) ss (deep-start vs l d b) ∙ ap (λ (a : State). run.after a ss) (start-forgets vs l d b)
+depths-change-nothing vs l d ss b other s alike within =
+    let a = at vs l d ss in
+    let limits = deep-limits vs a (deep-basic vs l d ss b) in
+    let one : forgotten a ≡ forgotten other = λ t. record { group = alike .groups t; store = alike .stores t } in
+    let nexts =
+    same.next-forgets a limits s ∙ ap (λ (c : Bare). run.next c s) one ∙ sym (same.next-forgets other within s) in (
+      same.says-forgets a limits s ∙ ap (λ (c : Bare). base.stepped (c .group) (c .store) s .says) one ∙ sym (same.says-forgets other within s),
+      record { groups = ap (λ (c : Bare). c .group) nexts; stores = ap (λ (c : Bare). c .store) nexts },
+    )
 
-pub answers-forget : (vs : List ℕ) (a : DeepState) (ss : List Step) → DeepBasic vs a → answers a ss ≡ run.answers (forgotten a) ss
+pub answers-forget : (vs : List ℕ) (a : State) (ss : List Step) → DeepBasic vs a → answers a ss ≡ run.answers (forgotten a) ss
 unfolding answers run.answers
 answers-forget vs a [] h = refl
 answers-forget vs a (s ∷ ss) h =
     ap₂ (λ (x : Said) (xs : List Said). x ∷ xs) (says-forgets vs a h s)
-    (answers-forget vs (next a s) ss (deep-next vs a h s) ∙ ap (λ (b : State). run.answers b ss) (next-forgets vs a h s))
+    (answers-forget vs (next a s) ss (deep-next vs a h s) ∙ ap (λ (b : Bare). run.answers b ss) (next-forgets vs a h s))
 
-pub answers-stay : AnswersStay
+pub answers-stay : (vs l d : List ℕ) (ss : List Step) → Begins vs l d → answers (startState vs l d) ss ≡ run.answers (run.startState vs l) ss
 answers-stay vs l d ss b =
-    answers-forget vs (startState vs l d) ss (deep-start vs l d b) ∙ ap (λ (a : State). run.answers a ss) (start-forgets vs l d b)
+    answers-forget vs (startState vs l d) ss (deep-start vs l d b) ∙ ap (λ (a : Bare). run.answers a ss) (start-forgets vs l d b)
 
 -- ---- statement 11
 
@@ -409,79 +345,37 @@ depths-fit vs l d ss b =
       λ i o. omega (arith, h .processes i (o .low) (omega (arith, deep-size vs (at vs l d ss) h, o .high)), most),
     )
 
--- the number of a refusal, by the course that it gives
-number-of : {k : ℕ} (g : Group) (l : List ℕ) (s : Step) (n : ℕ) → unlessRefused n g l s ≡ Refuses (suc k) → n ≡ suc k
-unfolding unlessRefused orIdle idles
-number-of {k} g l s zero e = absurd (never-refuses (idle g s) (isCut s) e)
-  where
-    never-refuses : (t c : Bool) → orIdle t c (takerOf s) (processAt g (takerOf s)) (eventOf g l s) ≡ Refuses (suc k) → ⊥
-    never-refuses true true e = let y : _≡_ {A = ℕ} 0 1 = cc in omega arith
-    never-refuses true false e = let y : _≡_ {A = ℕ} 0 1 = cc in omega arith
-    never-refuses false c e = let y : _≡_ {A = ℕ} 0 1 = cc in omega arith
-number-of g l s (suc n) e = cc
+pub sound-group : SoundGroup
+sound-group vs l d ss b = deep-limits vs (at vs l d ss) (deep-basic vs l d ss b) .ready
 
--- a step of a run is refused by the number of the table without depths, over the group without them
-refusal-same : (vs : List ℕ) (a : DeepState) → DeepBasic vs a → (s : Step) → refusal (a .group) (a .store) (a .depths) s ≡ table.refusal (forgetting (a .group)) (a .store) s
-unfolding course base.course unlessRefused
-refusal-same vs a h s = go (refusal (a .group) (a .store) (a .depths) s) refl (table.refusal (forgetting (a .group)) (a .store) s) refl
-  where
-    go : (m : ℕ) → refusal (a .group) (a .store) (a .depths) s ≡ m → (n : ℕ) → table.refusal (forgetting (a .group)) (a .store) s ≡ n
-        → refusal (a .group) (a .store) (a .depths) s ≡ table.refusal (forgetting (a .group)) (a .store) s
-    go zero e zero f = e ∙ sym f
-    go (suc m) e n f = e ∙ sym (number-of (forgetting (a .group)) (a .store) s (table.refusal (forgetting (a .group)) (a .store) s)
-        (sym (course-same vs a h s) ∙ ap (λ (k : ℕ). unlessRefused k (a .group) (a .store) s) e))
-    go zero e (suc n) f = number-of (a .group) (a .store) s (refusal (a .group) (a .store) (a .depths) s)
-        (course-same vs a h s ∙ ap (λ (k : ℕ). unlessRefused k (forgetting (a .group)) (a .store) s) f) ∙ sym f
-
--- the table without depths has no row 14
-row-not : (b : Bool) (k rest : ℕ) → k ≢ 14 → rest ≢ 14 → row b k rest ≢ 14
-unfolding row
-row-not true k rest a b = a
-row-not false k rest a b = b
-
-never-depths : (g : Group) (l : List ℕ) (s : Step) → table.refusal g l s ≢ 14
-unfolding table.refusal refusalBy row
-never-depths g l s =
-    row-not (short l) 11 _ (omega arith)
-    (row-not (table.damaged g) 2 _ (omega arith)
-    (row-not (strange g s) 3 _ (omega arith)
-    (row-not (late s) 4 _ (omega arith)
-    (row-not (table.down g s) 5 _ (omega arith)
-    (row-not (table.unsent l s) 6 _ (omega arith)
-    (row-not (table.misnamed g l s) 2 _ (omega arith)
-    (row-not (table.impossible g s) 7 _ (omega arith)
-    (row-not (table.recoversPast g s) 13 _ (omega arith)
-    (row-not (table.entersPast g l s) 8 0 (omega arith) (omega arith))))))))))
-
-pub never-fourteen : NeverFourteen
-unfolding forgetting
-never-fourteen vs l d ss b s =
+pub never-damaged : NeverDamaged
+never-damaged vs l d ss b s =
     let a = at vs l d ss in
-    let h = deep-basic vs l d ss b in
-    subst (λ (k : ℕ). (k ≢ 14) × (k ≢ 2) × (k ≢ 11)) (sym (refusal-same vs a h s))
-    (subst (λ (b : State). (table.refusal (b .group) (b .store) s ≢ 14) × (table.refusal (b .group) (b .store) s ≢ 2) × (table.refusal (b .group) (b .store) s ≢ 11))
-    (sym (depths-change-nothing vs l d ss b))
-    (never-depths (safety.at vs l ss .group) (safety.at vs l ss .store) s, never-two-nor-eleven vs l ss (b .begins) s .0, never-two-nor-eleven vs l ss (b .begins) s .1))
+    let bare-never = never-two-nor-eleven vs l ss (bare-begins b) s in
+    subst (λ (k : ℕ). (k ≢ 2) × (k ≢ 11) × (k ≢ 14)) (sym (same.refusal-same a (deep-limits vs a (deep-basic vs l d ss b)) s))
+    (subst (λ (c : Bare). (base.refusal (c .group) (c .store) s ≢ 2) × (base.refusal (c .group) (c .store) s ≢ 11) × (base.refusal (c .group) (c .store) s ≢ 14))
+    (sym (run-forgets vs l d ss b))
+    (bare-never .0, bare-never .1, same.never-depths (bare.at vs l ss .group) (bare.at vs l ss .store) s))
 
 -- ---- depths past the store
 
-past-step : (vs : List ℕ) (a : DeepState) (s : Step) → DeepBasic vs a → (q : ℕ) → storeLength ≤ q → messageDepth (next a s) q ≡ messageDepth a q
-unfolding next stepped settled datedBy datedBoth
+past-step : (vs : List ℕ) (a : State) (s : Step) → DeepBasic vs a → (q : ℕ) → storeLength ≤ q → messageDepth (next a s) q ≡ messageDepth a q
+unfolding next stepped settled datedBoth
 past-step vs a s h q le = go (course (a .group) (a .store) (a .depths) s) (deep-fine vs a h s)
   where
     k : ℕ
     k = depthAfter (a .group) (a .depths) s
 
-    go : (c : Course) → Fine (a .group .n) c → getD (datedBy k c (a .store) (a .depths)) q 0 ≡ messageDepth a q
+    go : (c : Course) → Fine (a .group .n) c → getD (settled (a .group) (a .store) (a .depths) k c .depths) q 0 ≡ messageDepth a q
     go Idles f = refl
     go (Refuses n) f = refl
     go (Takes i x) f =
         dated-other i (x .second) k (handOver i (x .first) (a .store)) (dated i (x .first) k (a .store) (a .depths)) q (omega (arith, place-lt i (x .second) (f .small) (f .second)))
         ∙ dated-other i (x .first) k (a .store) (a .depths) q (omega (arith, place-lt i (x .first) (f .small) (f .first)))
 
-pub past-depths-kept : PastDepthsKept
-unfolding opened placeOf
+pub past-depths-kept : (vs l d : List ℕ) (ss : List Step) → Begins vs l d → (q : ℕ) → storeLength ≤ q → messageDepth (at vs l d ss) q ≡ getD d q 0
+unfolding openedDepths placeOf
 past-depths-kept vs l d ss b q le =
-    deep-throughout vs (λ (a : DeepState). messageDepth a q ≡ getD d q 0) (λ a s h e. past-step vs a s h q le ∙ e) (startState vs l d) ss (deep-start vs l d b)
-    (ap (λ (a : DeepState). messageDepth a q) (start-deep vs l d b)
+    deep-throughout vs (λ (a : State). messageDepth a q ≡ getD d q 0) (λ a s h e. past-step vs a s h q le ∙ e) (startState vs l d) ss (deep-start vs l d b)
+    (ap (λ (a : State). messageDepth a q) (start-deep vs l d b)
     ∙ dated-other 1 (firstMessage (getD vs 0 0)) 0 (cleared storeLength l) (cleared storeLength d) q (omega arith) ∙ cleared-past storeLength d q le)

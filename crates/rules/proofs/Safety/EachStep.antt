@@ -14,16 +14,16 @@ use Rattle.rules.specs.declared.process.Process.{Process}
 use Rattle.rules.specs.declared.process.Next.{Next}
 use Rattle.rules.specs.declared.step.Step.{Step}
 use Rattle.rules.specs.declared.step.Step.the-variants.{DeliverE, DeliverS, DeliverF, DeliverDecision, Suspect, Pause, Crash, Recover}
-use Rattle.rules.specs.Step.{Course, Idles, Refuses, Takes}
+use Rattle.rules.specs.Refusals.{every, strange, late, unsent}
+use Rattle.rules.specs.Step.{Course, Idles, Refuses, Takes, idles, orIdle, unlessRefused}
+use Rattle.rules.proofs.Bare.Run.{State, next}
+use Rattle.rules.proofs.Bare.Step.{refusal, course, settled, stepped}
 use Rattle.rules.specs.Limits.{greatestSize, lastRound, among}
 use Rattle.rules.specs.Tally.{holds}
 use Rattle.rules.specs.Records.{processAt, withProcess}
 use Rattle.rules.specs.Store.{slot, decisionSlot, kindE, kindF}
 use Rattle.rules.specs.Steps.{takerOf, numbersOf, roundOf, delivers, slotOf, isCut, entryIn, eventOf}
 use Rattle.rules.specs.Idle.{pastFor, at, idleE, idleS, idleF, idle}
-use Rattle.rules.specs.Refusals.{every, strange, late, unsent, refusal}
-use Rattle.rules.specs.Step.{idles, orIdle, unlessRefused, course, settled, stepped}
-use Rattle.rules.specs.Run.{State, next}
 use Rattle.rules.proofs.BoolLaws.{or-left, or-right}
 use Rattle.rules.proofs.GroupLaws.{process-put, process-kept}
 use Rattle.rules.proofs.SoundLaws.{second-among, Whole, sound-facts, Passed, refusal-passed, taker-in, Taking, Fine, course-fine}

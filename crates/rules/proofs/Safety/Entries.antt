@@ -10,10 +10,10 @@ use Rattle.rules.specs.declared.step.Step.{Step}
 use Rattle.rules.specs.Limits.{storeLength}
 use Rattle.rules.specs.Records.{blank}
 use Rattle.rules.specs.Store.{sentIn}
-use Rattle.rules.specs.Start.{begun}
-use Rattle.rules.specs.Step.{stepped}
-use Rattle.rules.specs.Run.{State, startState, next, after, answers}
-use Rattle.rules.specs.Safety.{at, processOf, sumSent, SentStays, PastKept, SentCounts, AboveKept}
+use Rattle.rules.specs.Safety.{sumSent}
+use Rattle.rules.proofs.Bare.Run.{State, startState, next, after, answers}
+use Rattle.rules.proofs.Bare.Statements.{at, processOf, SentStays, PastKept, SentCounts, AboveKept}
+use Rattle.rules.proofs.Bare.Step.{begun, stepped}
 use Rattle.rules.proofs.StoreLaws.{opened-past, opened-sent}
 use Rattle.rules.proofs.GroupLaws.{started-blank}
 use Rattle.rules.proofs.SoundLaws.{named-entry, step-by, step-past, step-above, step-sent}
@@ -23,7 +23,7 @@ use Rattle.rules.proofs.Safety.Cases.{throughout, overs-by}
 -- ---- what is sent stays sent
 
 -- one step
-step-stays : (g : Group) (l : List ℕ) (s : Step) (k : ℕ) → storeLength ≤ length l → getD l k 0 ≢ 0 → getD (stepped g l s .store) k 0 ≢ 0
+pub step-stays : (g : Group) (l : List ℕ) (s : Step) (k : ℕ) → storeLength ≤ length l → getD l k 0 ≢ 0 → getD (stepped g l s .store) k 0 ≢ 0
 step-stays g l s k long ne =
     step-by (λ (g' : Group) (l' : List ℕ) (t : ℕ). getD l' k 0 ≢ 0) g l s ne
     (λ i x h.

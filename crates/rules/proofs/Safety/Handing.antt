@@ -16,15 +16,17 @@ use Rattle.rules.specs.declared.process.Message.{Message}
 use Rattle.rules.specs.declared.process.Message.the-variants.{Nothing, E, S, F, Decision}
 use Rattle.rules.specs.declared.step.Step.{Step}
 use Rattle.rules.specs.declared.step.Step.the-variants.{DeliverE, DeliverS, DeliverF, DeliverDecision, Suspect, Pause, Crash, Recover}
-use Rattle.rules.specs.Step.{Course, Idles, Refuses, Takes}
+use Rattle.rules.specs.Refusals.{row, every, short, strange, late, down, unsent, misnamed, impossible, recoversPast, entersPast}
+use Rattle.rules.specs.Start.{firstMessage, opened}
+use Rattle.rules.specs.Step.{Course, Idles, Refuses, Takes, handOvers}
+use Rattle.rules.specs.Run.{Handed, handed, one, handedByCourse}
+use Rattle.rules.specs.Safety.{Delivers, Among}
+use Rattle.rules.proofs.Bare.Run.{State, startState, next, after, handedBy, handedIn, handedFrom}
+use Rattle.rules.proofs.Bare.Statements.{Begins, at, RefusalSix}
+use Rattle.rules.proofs.Bare.Step.{begun, damaged, refusalBy, refusal, course, settled, stepped}
 use Rattle.rules.specs.Limits.{greatestSize, lastRound, storeLength, among}
 use Rattle.rules.specs.Store.{kindE, kindS, kindF, placeOf, messageRound, handOver, cleared}
-use Rattle.rules.specs.Start.{firstMessage, opened, begun}
 use Rattle.rules.specs.Steps.{numbersOf, roundOf, delivers, slotOf, entryIn}
-use Rattle.rules.specs.Refusals.{row, every, short, damaged, strange, late, down, unsent, misnamed, impossible, recoversPast, entersPast, refusalBy, refusal}
-use Rattle.rules.specs.Step.{course, handOvers, settled, stepped}
-use Rattle.rules.specs.Run.{State, startState, next, after, Handed, handed, one, handedByCourse, handedBy, handedIn, handedFrom}
-use Rattle.rules.specs.Safety.{Begins, at, Delivers, Among, RefusalSix}
 use Rattle.rules.specs.Safety.Among.{here, later}
 use Rattle.rules.proofs.BoolLaws.{and-right, and-both}
 use Rattle.rules.proofs.StoreLaws.{Place, slot-same, IsMessage, place-lt, handOver-length, handOver-own, handOver-other, cleared-length, cleared-below}

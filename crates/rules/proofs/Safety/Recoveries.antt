@@ -13,18 +13,19 @@ use Rattle.rules.specs.declared.process.Process.{Process}
 use Rattle.rules.specs.declared.process.Next.{Next}
 use Rattle.rules.specs.declared.step.Step.{Step}
 use Rattle.rules.specs.declared.step.Step.the-variants.{DeliverE, DeliverS, DeliverF, DeliverDecision, Suspect, Pause, Crash, Recover}
-use Rattle.rules.specs.Step.{Course, Idles, Refuses, Takes}
+use Rattle.rules.specs.Refusals.{row, every, short, strange, late, isRecover, down, unsent, misnamed, impossible, recoversPast, entersPast}
+use Rattle.rules.specs.Start.{fresh}
+use Rattle.rules.specs.Step.{Course, Idles, Refuses, Takes, orIdle, unlessRefused}
+use Rattle.rules.specs.Safety.{Of}
+use Rattle.rules.proofs.Bare.Run.{State, startState, next, after}
+use Rattle.rules.proofs.Bare.Statements.{Begins, at, processOf, recoversOf, RecoveriesCounted, RecoveriesFit, RefusalThirteen}
+use Rattle.rules.proofs.Bare.Step.{begun, refusalBy, refusal, course, settled, stepped}
 use Rattle.rules.specs.Limits.{greatestSize, mostRecoveries, tooMany, storeLength}
 use Rattle.rules.specs.Tally.{bitOf}
 use Rattle.rules.specs.Records.{processAt, Sized}
-use Rattle.rules.specs.Start.{fresh, begun}
 use Rattle.rules.specs.Events.{crashed, recovered, quiet, onCrash, onRecover, cutIf}
 use Rattle.rules.specs.Steps.{takerOf, numbersOf, roundOf, delivers, isCut, eventOf}
 use Rattle.rules.specs.Idle.{idle}
-use Rattle.rules.specs.Refusals.{row, every, short, strange, late, isRecover, down, unsent, misnamed, impossible, recoversPast, entersPast, refusalBy, refusal}
-use Rattle.rules.specs.Step.{orIdle, unlessRefused, course, settled, stepped}
-use Rattle.rules.specs.Run.{State, startState, next, after}
-use Rattle.rules.specs.Safety.{Begins, at, processOf, Of, recoversOf, RecoveriesCounted, RecoveriesFit, RefusalThirteen}
 use Rattle.rules.proofs.RowLaws.{among-in}
 use Rattle.rules.proofs.GroupLaws.{process-put, started-process}
 use Rattle.rules.proofs.SoundLaws.{Fine, course-fine}

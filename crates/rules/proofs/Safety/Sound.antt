@@ -17,19 +17,19 @@ use Rattle.rules.specs.declared.process.Message.{Message}
 use Rattle.rules.specs.declared.process.Message.the-variants.{Nothing, E, S, F, Decision}
 use Rattle.rules.specs.declared.step.Step.{Step}
 use Rattle.rules.specs.declared.step.Step.the-variants.{DeliverE, DeliverS, DeliverF, DeliverDecision, Suspect, Pause, Crash, Recover}
-use Rattle.rules.specs.Step.{Course}
+use Rattle.rules.specs.Refusals.{row, short, strange, late, down, unsent, misnamed, impossible, recoversPast, entersPast}
+use Rattle.rules.specs.Start.{fresh, startedTo, opened}
+use Rattle.rules.specs.Step.{Course, handOvers}
+use Rattle.rules.proofs.Bare.Run.{State, startState, next}
+use Rattle.rules.proofs.Bare.Statements.{Begins, at, processOf, SoundGroup, SoundEntries, NeverTwoNorEleven, TalliesFit}
+use Rattle.rules.proofs.Bare.Step.{begun, damaged, refusalBy, refusal, settled, stepped}
 use Rattle.rules.specs.Limits.{greatestSize, storeLength, among}
 use Rattle.rules.specs.Tally.{holds}
 use Rattle.rules.specs.Records.{processAt, Sized}
 use Rattle.rules.specs.Store.{entryOf, proposerOf, valueOf, entryFor}
-use Rattle.rules.specs.Start.{fresh, startedTo, opened, begun}
 use Rattle.rules.specs.Events.{takes, enters, joinsEstimates, joinsSuspicions, decides, secondPhase, marks, paused, crashed, recovered, quiet, changed, jumpsIf, jumps, relaysIf, relays, decidesIf, decidesAt, goesToPhase2, goesToPhase2If, toPhase2, adoptsIf, adopts, opensIf, opens, entersNextIf, entersNextAt, onE, onS, onF, onDecision, onSuspect, onPause, onCrash, onRecover, cutIf}
 use Rattle.rules.specs.Steps.{takerOf, isCut, delivers, slotOf, entryIn, eventOf}
-use Rattle.rules.specs.Refusals.{row, short, damaged, strange, late, down, unsent, misnamed, impossible, recoversPast, entersPast, refusalBy, refusal}
-use Rattle.rules.specs.Step.{handOvers, settled, stepped}
 use Rattle.rules.specs.Parts.{numberRows}
-use Rattle.rules.specs.Run.{State, startState, next}
-use Rattle.rules.specs.Safety.{Begins, at, processOf, SoundGroup, SoundEntries, NeverTwoNorEleven, TalliesFit}
 use Rattle.rules.proofs.RowLaws.{row-pass, among-in}
 use Rattle.rules.proofs.CountLaws.{count-le}
 use Rattle.rules.proofs.TallyLaws.{ones-count}

@@ -16,17 +16,18 @@ use Rattle.rules.specs.declared.process.Process.{Process}
 use Rattle.rules.specs.declared.process.Next.{Next}
 use Rattle.rules.specs.declared.step.Step.{Step}
 use Rattle.rules.specs.declared.step.Step.the-variants.{DeliverE, DeliverS, DeliverF, DeliverDecision, Suspect, Pause, Crash, Recover}
-use Rattle.rules.specs.Step.{Course}
+use Rattle.rules.specs.Refusals.{isRecover, down, maySuspect, impossible, strange, late, unsent, misnamed, recoversPast, entersPast}
+use Rattle.rules.specs.Start.{fresh}
+use Rattle.rules.specs.Step.{Course, idles, orIdle, unlessRefused}
+use Rattle.rules.specs.Safety.{Of, cut, backUnless, back}
+use Rattle.rules.proofs.Bare.Run.{State, startState, next, after}
+use Rattle.rules.proofs.Bare.Statements.{Begins, at, processOf, FirstValuesStay, DecisionsStay, DownThrough, Recovery, DownKeeps, GoingDownKeeps, CutStores}
+use Rattle.rules.proofs.Bare.Step.{begun, refusalBy, refusal, course, settled, stepped}
 use Rattle.rules.specs.Limits.{greatestSize}
 use Rattle.rules.specs.Records.{Stored, stored, processAt, withProcess, Sized}
-use Rattle.rules.specs.Start.{fresh, begun}
 use Rattle.rules.specs.Events.{paused, crashed, recovered, quiet, onPause, onCrash, onRecover, cutIf}
 use Rattle.rules.specs.Steps.{takerOf, isCut, entryIn, eventOf, numbersOf, roundOf, delivers, slotOf}
 use Rattle.rules.specs.Idle.{pastFor, idle, idleE, idleS, idleF}
-use Rattle.rules.specs.Refusals.{isRecover, down, maySuspect, impossible, refusalBy, refusal, strange, late, unsent, misnamed, recoversPast, entersPast}
-use Rattle.rules.specs.Step.{idles, orIdle, unlessRefused, course, settled, stepped}
-use Rattle.rules.specs.Run.{State, startState, next, after}
-use Rattle.rules.specs.Safety.{Begins, at, processOf, Of, FirstValuesStay, DecisionsStay, DownThrough, cut, backUnless, back, Recovery, DownKeeps, GoingDownKeeps, CutStores}
 use Rattle.rules.proofs.BoolLaws.{and-left, or-left}
 use Rattle.rules.proofs.GroupLaws.{process-put, process-kept, started-process}
 use Rattle.rules.proofs.SoundLaws.{Passed, refusal-passed, taker-in, sound-facts}

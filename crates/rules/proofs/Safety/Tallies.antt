@@ -7,34 +7,35 @@ use mathlib.Core.Logic.{_⊎_, _≢_, inl, inr}
 use Prim.Native.Nat.{ℕ, _+_, _-_, _*_, _^_, _≤_, _<_}
 use native.Mathlib.Decide.{ℕ-discrete}
 use native.Mathlib.Omega.{arith}
+use lib.Count.{ones}
 use lib.Dec.{eqb, ltb}
 use lib.ListN.{length, getD, set}
 use lib.Pow.{pow-pos}
-use borrow.Author.Tests.{ltb-false, eqb-true, eqb-false, eq-eqb, ne-eqb, not-false}
+use borrow.Author.Tests.{leb-true, ltb-true, ltb-false, lt-ltb, eqb-true, eqb-false, eq-eqb, ne-eqb, not-false}
 use Rattle.rules.specs.declared.group.Group.{Group}
 use Rattle.rules.specs.declared.process.Process.{Process}
 use Rattle.rules.specs.declared.process.Next.{Next}
 use Rattle.rules.specs.declared.process.Message.{Message}
 use Rattle.rules.specs.declared.step.Step.{Step}
 use Rattle.rules.specs.declared.step.Step.the-variants.{DeliverE, DeliverS, DeliverF, DeliverDecision, Suspect, Pause, Crash, Recover}
-use Rattle.rules.specs.Step.{Course, Idles, Refuses, Takes}
+use Rattle.rules.specs.Refusals.{every, strange, unsent}
+use Rattle.rules.specs.Start.{fresh, startedTo, opened}
+use Rattle.rules.specs.Step.{Course, Idles, Refuses, Takes, handOvers}
+use Rattle.rules.specs.Safety.{Majority, joinedIf, estimatesWith}
+use Rattle.rules.proofs.Bare.Run.{State, startState, next}
+use Rattle.rules.proofs.Bare.Statements.{Begins, at, processOf, TalliesHeard, DecidesWithMajority, Phase2WithMajority, NextRoundWithMajority}
+use Rattle.rules.proofs.Bare.Step.{begun, course, settled, stepped}
 use Rattle.rules.specs.Limits.{greatestSize, lastRound, storeLength, majority, coordinator, among}
-use Rattle.rules.specs.Tally.{count, holds, joined, meets}
+use Rattle.rules.specs.Tally.{holds, joined, meets, within}
 use Rattle.rules.specs.Records.{processAt, withProcess, Sized}
 use Rattle.rules.specs.Store.{slot, kindE, kindS, kindF, proposerOf, valueOf, placeOf, messageRound, entryFor, handOver}
-use Rattle.rules.specs.Start.{fresh, startedTo, opened, begun}
 use Rattle.rules.specs.Events.{takes, enters, joinsEstimates, joinsSuspicions, decides, secondPhase, marks, paused, crashed, recovered, quiet, changed, jumpsIf, jumps, relaysIf, relays, decidesIf, decidesAt, goesToPhase2, goesToPhase2If, toPhase2, adoptsIf, adopts, entersNextIf, entersNextAt, onE, onS, onF, onDecision, onSuspect, onPause, onCrash, onRecover, cutIf}
 use Rattle.rules.specs.Steps.{takerOf, numbersOf, delivers, isCut, slotOf, entryIn, eventOf}
 use Rattle.rules.specs.Idle.{pastFor, idleE, idleS, idleF, idle, at as inPhase}
-use Rattle.rules.specs.Refusals.{every, strange, unsent}
-use Rattle.rules.specs.Step.{course, handOvers, settled, stepped}
-use Rattle.rules.specs.Run.{State, startState, next}
-use Rattle.rules.specs.Safety.{Begins, at, processOf, TalliesHeard, DecidesWithMajority, Phase2WithMajority, NextRoundWithMajority}
 use Rattle.rules.proofs.BoolLaws.{and-both, or-case, or-left, or-right}
-use Rattle.rules.proofs.TallyLaws.{holds-joined, holds-empty, meets-count, joined-below}
+use Rattle.rules.proofs.TallyLaws.{holds-joined, holds-empty, joined-below}
 use Rattle.rules.proofs.StoreLaws.{IsMessage, place-lt, own, other, handing, handOver-length}
 use Rattle.rules.proofs.GroupLaws.{process-put, process-kept, started-process, started-size}
-use Rattle.rules.proofs.CountLaws.{count-mono}
 use Rattle.rules.proofs.SoundLaws.{named-entry, second-among, Whole, Sound, sound-facts, Named, Taking, Fine, course-fine, Passed, taker-in}
 use Rattle.rules.proofs.Safety.Cases.{course-by}
 use Rattle.rules.proofs.Safety.Basics.{onward, Basic, basic-start, basic-next, start-is}
@@ -44,10 +45,6 @@ use Rattle.rules.proofs.Safety.Basics.{onward, Basic, basic-start, basi
 -- everyone of 1..n in the tally t has sent its message of round r and kind k
 abbrev pub Voiced : List ℕ → ℕ → ℕ → ℕ → ℕ → Type 0
 Voiced l n r k t = (j : ℕ) → 1 ≤ j → j ≤ n → holds t j ≡ true → getD l (slot r j k) 0 ≢ 0
-
--- a majority of 1..n has sent its message of round r and kind k
-abbrev pub Majority : List ℕ → ℕ → ℕ → ℕ → Type 0
-Majority l r k n = majority n ≤ count (λ j. not (eqb (getD l (slot r j k) 0) 0)) n
 
 module _ (l : List ℕ) (n r k : ℕ) where
   -- nobody is in the empty tally
@@ -63,14 +60,9 @@ module _ (l : List ℕ) (n r k : ℕ) where
       go (inr e) = v i a b e
 
   -- at a majority, as many have sent it
-  voiced-majority : (t : ℕ) → t < 2 ^ n → Voiced l n r k t → meets t n ≡ true → Majority l r k n
-  voiced-majority t below v m =
-      omega (
-        arith,
-        meets-count t n below m,
-        count-mono (holds t) (λ j. not (eqb (getD l (slot r j k) 0) 0)) n
-            (λ j a b h. ap not (ne-eqb (getD l (slot r j k) 0) 0 (v j a b h))),
-      )
+  voiced-majority : (t : ℕ) → t < 2 ^ n → Voiced l n r k t → meets t n ≡ true → Majority n l r k t
+  unfolding meets within
+  voiced-majority t below v m = record { meets = leb-true (majority n) (ones t) m; senders = lt-ltb t (2 ^ n) below; sent = v }
 
 -- ---- a process that has heard only what is sent
 
@@ -152,7 +144,7 @@ module _ (l : List ℕ) (n r f : ℕ) {at-round at-phase e s : ℕ} (h : Ripe l 
       }
 
   -- at a majority, as many have sent it
-  ripe-majority : meets e n ≡ true → Majority l r (tallyKind f) n
+  ripe-majority : meets e n ≡ true → Majority n l r (tallyKind f) e
   ripe-majority m =
       voiced-majority l n r (tallyKind f) e (h .below)
       (λ j a b t z. h .hears .estimates j a b t
@@ -249,6 +241,36 @@ not-same : (p : Process) (r : ℕ) (b c : Bool) → ((not (eqb r (p .round)) || 
 not-same p r b c e =
     eqb-true r (p .round) (not-false (eqb r (p .round)) (or-left (not (eqb r (p .round))) b (or-left (not (eqb r (p .round)) || b) c e)))
 
+-- whether a process that is not past round r is in its phase 1, or in its phase 2, by the tests of the stages
+in-first : {n : ℕ} (p : Process) (r : ℕ) → Whole n p → p .round ≤ r → (p .round ≡ r → p .phase ≢ 2) → not (ltb (p .round) r) ≡ inPhase p r 1
+unfolding inPhase
+in-first p r w le two = go (ltb (p .round) r) refl
+  where
+    one : {f : ℕ} → (f ≡ 1) ⊎ (f ≡ 2) → f ≢ 2 → f ≡ 1
+    one (inl a) no-two = a
+    one (inr b) no-two = absurd (no-two b)
+
+    go : (t : Bool) → ltb (p .round) r ≡ t → not t ≡ (eqb r (p .round) && eqb (p .phase) 1)
+    go true e = sym (ap (λ (b : Bool). b && eqb (p .phase) 1) (ne-eqb r (p .round) (omega (arith, ltb-true (p .round) r e))))
+    go false e =
+        let same : p .round ≡ r = omega (arith, ltb-false (p .round) r e) in
+        sym (and-both (eqb r (p .round)) (eqb (p .phase) 1) (eq-eqb r (p .round) (sym same)) (eq-eqb (p .phase) 1 (one (w .in-phase) (two same))))
+
+in-second : {n : ℕ} (p : Process) (r q v : ℕ) → Whole n p → p .round ≤ r
+    → (not (ltb (p .round) r) && not (eqb (jumpsIf (ltb (p .round) r) r q v p .phase) 1)) ≡ inPhase p r 2
+unfolding inPhase jumpsIf
+in-second p r q v w le = go (ltb (p .round) r) refl
+  where
+    other : (f : ℕ) → (f ≡ 1) ⊎ (f ≡ 2) → not (eqb f 1) ≡ eqb f 2
+    other f (inl e) = rw e
+    other f (inr e) = rw e
+
+    go : (t : Bool) → ltb (p .round) r ≡ t → (not t && not (eqb (jumpsIf t r q v p .phase) 1)) ≡ (eqb r (p .round) && eqb (p .phase) 2)
+    go true e = sym (ap (λ (b : Bool). b && eqb (p .phase) 2) (ne-eqb r (p .round) (omega (arith, ltb-true (p .round) r e))))
+    go false e =
+        let same : r ≡ p .round = omega (arith, ltb-false (p .round) r e) in
+        other (p .phase) (w .in-phase) ∙ sym (ap (λ (b : Bool). b && eqb (p .phase) 2) (eq-eqb r (p .round) same))
+
 module _ (l : List ℕ) (n i j r : ℕ) (p : Process) (w : Whole n p) (h : HearsAt l n p) where
   -- an E: the record that its last stage takes
   module _ (q v : ℕ) (m : Arrives l n j r kindE) (busy : idleE p j r ≡ false) where
@@ -282,13 +304,30 @@ module _ (l : List ℕ) (n i j r : ℕ) (p : Process) (w : Whole n p) (h : Hears
     undecided false true = refl
     undecided false false = refl
 
+    -- the tally that it has then: its own, or an empty one where it jumps, with the sender
+    joined-E : (s t : Bool) → changed (joinsEstimates j) (relaysIf s q v (jumpsIf t r q v p)) .process .estimates ≡ joinedIf (not t) (p .estimates) j
+    unfolding changed joinsEstimates relaysIf jumpsIf takes enters quiet joinedIf
+    joined-E true true = refl
+    joined-E true false = refl
+    joined-E false true = refl
+    joined-E false false = refl
+
+    tally-E : last-E .process .estimates ≡ estimatesWith j r 1 p
+    unfolding relays jumps idleE
+    tally-E =
+        let rest = inPhase p r 1 && holds (p .estimates) j in
+        let p' = jumpsIf (ltb (p .round) r) r q v p in
+        joined-E (eqb (p' .estimates) 0 && not (eqb i (coordinator (p' .round) n))) (ltb (p .round) r)
+        ∙ ap (λ (b : Bool). joinedIf b (p .estimates) j)
+        (in-first p r w (not-past p r (inPhase p r 2 || rest) busy) (not-two p r rest (or-right (pastFor p r) (inPhase p r 2 || rest) busy)))
+
     -- it decides with a majority
-    decides-E : p .decided ≡ false → onE n i j r q v p .process .decided ≡ true → Majority l r kindE n
+    decides-E : p .decided ≡ false → onE n i j r q v p .process .decided ≡ true → Majority n l r kindE (last-E .process .estimates)
     unfolding onE decidesAt decidesIf relays jumps
     decides-E old = go (meets (last-E .process .estimates) n) refl
       where
         go : (t : Bool) → meets (last-E .process .estimates) n ≡ t → decidesIf t last-E .process .decided ≡ true
-            → Majority l r kindE n
+            → Majority n l r kindE (last-E .process .estimates)
         go true e new = ripe-majority l n r 1 ripe-E e
         go false e new =
             let p' = jumpsIf (ltb (p .round) r) r q v p in
@@ -317,13 +356,33 @@ module _ (l : List ℕ) (n i j r : ℕ) (p : Process) (w : Whole n p) (h : Hears
         go true = hears-nobody l n (last-F .process .round + 1) 1
         go false = ripe-F .hears
 
+    -- the tally that it has then: its own in phase 2 of that round, or an empty one, with the sender
+    joined-F : (s t u : Bool) → changed (joinsEstimates j) (adoptsIf s q v (goesToPhase2If u (jumpsIf t r q v p))) .process .estimates ≡ joinedIf (not t && not u) (p .estimates) j
+    unfolding changed joinsEstimates adoptsIf goesToPhase2If goesToPhase2 secondPhase jumpsIf takes enters quiet joinedIf
+    joined-F true true true = refl
+    joined-F true true false = refl
+    joined-F true false true = refl
+    joined-F true false false = refl
+    joined-F false true true = refl
+    joined-F false true false = refl
+    joined-F false false true = refl
+    joined-F false false false = refl
+
+    tally-F : last-F .process .estimates ≡ estimatesWith j r 2 p
+    unfolding adopts toPhase2 jumps idleF
+    tally-F =
+        let p' = jumpsIf (ltb (p .round) r) r q v p in
+        let x = goesToPhase2If (eqb (p' .phase) 1) p' in
+        joined-F (eqb q (coordinator (x .process .round) n)) (ltb (p .round) r) (eqb (p' .phase) 1)
+        ∙ ap (λ (b : Bool). joinedIf b (p .estimates) j) (in-second p r q v w (not-past p r (inPhase p r 2 && holds (p .estimates) j) busy))
+
     -- it enters the next round with a majority
-    next-F : onF n i j r q v p .process .round ≡ r + 1 → Majority l r kindF n
+    next-F : onF n i j r q v p .process .round ≡ r + 1 → Majority n l r kindF (last-F .process .estimates)
     unfolding onF entersNextAt entersNextIf
     next-F = go (meets (last-F .process .estimates) n) refl
       where
         go : (t : Bool) → meets (last-F .process .estimates) n ≡ t → entersNextIf t n i last-F .process .round ≡ r + 1
-            → Majority l r kindF n
+            → Majority n l r kindF (last-F .process .estimates)
         go true e new = ripe-majority l n r 2 ripe-F e
         go false e new = absurd (omega (arith, ripe-F .round))
 
@@ -352,12 +411,12 @@ module _ (l : List ℕ) (n i j r : ℕ) (p : Process) (w : Whole n p) (h : Hears
         go false = record { estimates = h .estimates; suspicions = own-round }
 
     -- it goes to phase 2 with a majority
-    second-S : p .phase ≡ 1 → onS n j p .process .phase ≡ 2 → Majority l r kindS n
+    second-S : p .phase ≡ 1 → onS n j p .process .phase ≡ 2 → Majority n l r kindS (joined (p .suspicions) j)
     unfolding onS joinsSuspicions goesToPhase2If goesToPhase2 quiet
     second-S old = go (meets (joinsSuspicions j p .suspicions) n) refl
       where
         go : (t : Bool) → meets (joinsSuspicions j p .suspicions) n ≡ t → goesToPhase2If t (joinsSuspicions j p) .process .phase ≡ 2
-            → Majority l r kindS n
+            → Majority n l r kindS (joined (p .suspicions) j)
         go true e new =
             voiced-majority l n r kindS (joined (p .suspicions) j) (joined-below (p .suspicions) j n (w .suspected) (m .low) (m .high)) suspected e
         go false e new = absurd (omega arith)
@@ -538,45 +597,53 @@ module _ (g : Group) (l : List ℕ) (sized : Sized g) (all : AllHear g l) (i j r
   taker-hears s h = let to = taker-in g s (h .known) in all (takerOf s) (to .0) (to .1)
 
   -- a decision by an E
-  decides-step : processAt g i .decided ≡ false → processAt (stepped g l (DeliverE i j r c) .group) i .decided ≡ true → Majority l r kindE (g .n)
+  decides-step : processAt g i .decided ≡ false → processAt (stepped g l (DeliverE i j r c) .group) i .decided ≡ true → Majority (g .n) l r kindE (estimatesWith j r 1 (processAt g i))
   unfolding takerOf idle eventOf crashed
   decides-step old new = go (came (λ (p : Process). p .decided) (λ p. refl) g l s sized)
     where
       s : Step
       s = DeliverE i j r c
 
-      go : Came (λ (p : Process). p .decided) g l s (stepped g l s .group) → Majority l r kindE (g .n)
+      go : Came (λ (p : Process). p .decided) g l s (stepped g l s .group) → Majority (g .n) l r kindE (estimatesWith j r 1 (processAt g i))
       go (inl same) = let z : _≡_ {A = ℕ} 0 1 = cc in absurd (omega arith)
       go (inr (h, f, e)) =
-          decides-E l (g .n) i j r (processAt g i) (taker-whole g l s h) (taker-hears s h) (proposerOf (entryIn l s)) (valueOf (entryIn l s))
-          (arrives-E g l i j r c h) f old (sym e ∙ new)
+          let w = taker-whole g l s h in
+          let m = arrives-E g l i j r c h in
+          let q = proposerOf (entryIn l s) in
+          let v = valueOf (entryIn l s) in
+          subst (Majority (g .n) l r kindE) (tally-E l (g .n) i j r (processAt g i) w (taker-hears s h) q v m f)
+          (decides-E l (g .n) i j r (processAt g i) w (taker-hears s h) q v m f old (sym e ∙ new))
 
   -- phase 2 by an S
-  second-step : processAt g i .phase ≡ 1 → processAt (stepped g l (DeliverS i j r c) .group) i .phase ≡ 2 → Majority l r kindS (g .n)
+  second-step : processAt g i .phase ≡ 1 → processAt (stepped g l (DeliverS i j r c) .group) i .phase ≡ 2 → Majority (g .n) l r kindS (joined (processAt g i .suspicions) j)
   unfolding takerOf idle eventOf crashed
   second-step old new = go (came (λ (p : Process). p .phase) (λ p. refl) g l s sized)
     where
       s : Step
       s = DeliverS i j r c
 
-      go : Came (λ (p : Process). p .phase) g l s (stepped g l s .group) → Majority l r kindS (g .n)
+      go : Came (λ (p : Process). p .phase) g l s (stepped g l s .group) → Majority (g .n) l r kindS (joined (processAt g i .suspicions) j)
       go (inl same) = absurd (omega arith)
       go (inr (h, f, e)) =
           second-S l (g .n) i j r (processAt g i) (taker-whole g l s h) (taker-hears s h) (arrives-S g l i j r c h) f old (sym e ∙ new)
 
   -- the next round by an F
-  round-step : processAt g i .round ≤ r → processAt (stepped g l (DeliverF i j r c) .group) i .round ≡ r + 1 → Majority l r kindF (g .n)
+  round-step : processAt g i .round ≤ r → processAt (stepped g l (DeliverF i j r c) .group) i .round ≡ r + 1 → Majority (g .n) l r kindF (estimatesWith j r 2 (processAt g i))
   unfolding takerOf idle eventOf crashed
   round-step old new = go (came (λ (p : Process). p .round) (λ p. refl) g l s sized)
     where
       s : Step
       s = DeliverF i j r c
 
-      go : Came (λ (p : Process). p .round) g l s (stepped g l s .group) → Majority l r kindF (g .n)
+      go : Came (λ (p : Process). p .round) g l s (stepped g l s .group) → Majority (g .n) l r kindF (estimatesWith j r 2 (processAt g i))
       go (inl same) = absurd (omega arith)
       go (inr (h, f, e)) =
-          next-F l (g .n) i j r (processAt g i) (taker-whole g l s h) (taker-hears s h) (proposerOf (entryIn l s)) (valueOf (entryIn l s))
-          (arrives-F g l i j r c h) f (sym e ∙ new)
+          let w = taker-whole g l s h in
+          let m = arrives-F g l i j r c h in
+          let q = proposerOf (entryIn l s) in
+          let v = valueOf (entryIn l s) in
+          subst (Majority (g .n) l r kindF) (tally-F l (g .n) i j r (processAt g i) w (taker-hears s h) q v m f)
+          (next-F l (g .n) i j r (processAt g i) w (taker-hears s h) q v m f (sym e ∙ new))
 
 -- a decision by E, a move to phase 2 by S and a next round by F come with a majority that sent it
 pub decides-with-majority : DecidesWithMajority
@@ -584,18 +651,18 @@ unfolding next
 decides-with-majority vs l ss b i j r c o old new =
     let a = at vs l ss in
     let k = heeds vs l ss b in
-    subst (Majority (a .store) r kindE) (k .basics .size) (decides-step (a .group) (a .store) (k .basics .sized) (k .all) i j r c old new)
+    subst (λ (n : ℕ). Majority n (a .store) r kindE (estimatesWith j r 1 (processOf a i))) (k .basics .size) (decides-step (a .group) (a .store) (k .basics .sized) (k .all) i j r c old new)
 
 pub phase2-with-majority : Phase2WithMajority
 unfolding next
 phase2-with-majority vs l ss b i j r c o old new =
     let a = at vs l ss in
     let k = heeds vs l ss b in
-    subst (Majority (a .store) r kindS) (k .basics .size) (second-step (a .group) (a .store) (k .basics .sized) (k .all) i j r c old new)
+    subst (λ (n : ℕ). Majority n (a .store) r kindS (joined (processOf a i .suspicions) j)) (k .basics .size) (second-step (a .group) (a .store) (k .basics .sized) (k .all) i j r c old new)
 
 pub next-round-with-majority : NextRoundWithMajority
 unfolding next
 next-round-with-majority vs l ss b i j r c o old new =
     let a = at vs l ss in
     let k = heeds vs l ss b in
-    subst (Majority (a .store) r kindF) (k .basics .size) (round-step (a .group) (a .store) (k .basics .sized) (k .all) i j r c old new)
+    subst (λ (n : ℕ). Majority n (a .store) r kindF (estimatesWith j r 2 (processOf a i))) (k .basics .size) (round-step (a .group) (a .store) (k .basics .sized) (k .all) i j r c old new)

@@ -18,22 +18,24 @@ use Rattle.rules.specs.declared.process.Message.the-variants.{Nothing, E
 use Rattle.rules.specs.declared.process.Next.{Next}
 use Rattle.rules.specs.declared.step.Step.{Step}
 use Rattle.rules.specs.declared.step.Step.the-variants.{DeliverE, DeliverS, DeliverF, DeliverDecision, Suspect, Pause, Crash, Recover}
-use Rattle.rules.specs.Step.{Course, Idles, Refuses, Takes}
+use Rattle.rules.specs.Records.{forgetting}
+use Rattle.rules.specs.Depths.{depthAfter}
+use Rattle.rules.specs.Refusals.{every, strange, late, unsent, refusal}
+use Rattle.rules.specs.Start.{fresh}
+use Rattle.rules.specs.Step.{Course, Idles, Refuses, Takes, idles, orIdle, unlessRefused, handOvers, course, settled, stepped}
+use Rattle.rules.specs.Run.{State, stateOf, startState, next, after}
+use Rattle.rules.specs.Safety.{Begins, at, processDepth, messageDepth, processOf, says, DecisionDepthStays, isSuspicion, plain, deliversE, takesE, senderOf, ledBy, TwoSteps}
+use Rattle.rules.proofs.Bare.Run.{State as Bare, forgotten}
+use Rattle.rules.proofs.Bare.Step.{begun}
 use Rattle.rules.specs.Limits.{greatestSize, lastRound, storeLength, coordinator, among}
 use Rattle.rules.specs.Tally.{bitOf, count, holds, joined, meets}
 use Rattle.rules.specs.Records.{processAt, withProcess, withDepth}
 use Rattle.rules.specs.Store.{slot, kindE, kindS, kindF, proposerOf, valueOf, placeOf, handOver, sentIn}
-use Rattle.rules.specs.Start.{fresh, begun}
 use Rattle.rules.specs.Events.{takes, joinsEstimates, decides, marks, paused, crashed, recovered, quiet, changed, jumpsIf, jumps, relaysIf, relays, decidesIf, decidesAt, onE, onDecision, onSuspect, onPause, onCrash, onRecover, cutIf}
 use Rattle.rules.specs.Steps.{takerOf, numbersOf, roundOf, delivers, slotOf, isCut, entryIn, eventOf}
 use Rattle.rules.specs.Idle.{pastFor, idleE, idleS, idleF, idle}
-use Rattle.rules.specs.Refusals.{every, strange, late, unsent}
-use Rattle.rules.specs.Step.{idles, orIdle, unlessRefused, handOvers}
-use Rattle.rules.specs.Step as base
-use Rattle.rules.specs.Depths.{depthAfter, refusal, course, deepened, datedBy, settled, stepped}
-use Rattle.rules.specs.Run.{State}
-use Rattle.rules.specs.Run as run
-use Rattle.rules.specs.DepthRun.{DeepState, stateOf, startState, next, after, DeepBegins, at, processDepth, messageDepth, decidedIn, applied, forgetting, DecisionDepthStays, isSuspicion, plain, deliversE, takesE, senderOf, ledBy, TwoSteps}
+use Rattle.rules.proofs.Bare.Step as base
+use Rattle.rules.proofs.Bare.Run as run
 use Rattle.rules.proofs.BoolLaws.{and-left, and-right, and-both, or-case, or-left}
 use Rattle.rules.proofs.TallyLaws.{holds-joined, holds-other, holds-empty, meets-count, joined-below}
 use Rattle.rules.proofs.CountLaws.{count-le}
@@ -84,28 +86,28 @@ crash-decided p e = e
 
 module _ (vs : List ℕ) (i : ℕ) (lo : 1 ≤ i) where
   -- whoever has decided has decided after any step, and hears nothing
-  decided-next : (a : DeepState) (s : Step) → DeepBasic vs a → i ≤ greatestSize → decidedIn a i ≡ true → decidedIn (next a s) i ≡ true
+  decided-next : (a : State) (s : Step) → DeepBasic vs a → i ≤ greatestSize → processOf a i .decided ≡ true → processOf (next a s) i .decided ≡ true
   unfolding run.next
   decided-next a s h hi e =
       let before : processAt (forgetting (a .group)) i .decided ≡ true = ap (λ (p : Process). p .decided) (process-forgets (a .group) i (h .sized) hi) ∙ e in
       ap (λ (p : Process). p .decided) (sym (process-forgets (next a s .group) i (deep-next vs a h s .sized) hi))
-      ∙ ap (λ (b : State). processAt (b .group) i .decided) (next-forgets vs a h s)
+      ∙ ap (λ (b : Bare). processAt (b .group) i .decided) (next-forgets vs a h s)
       ∙ process-by (λ (p : Process). p .decided ≡ true) (forgetting (a .group)) (a .store) s i (h .basic .sized) lo hi crash-decided before
       (λ p t f. event-decided (forgetting (a .group)) (a .store) s f (ap (λ (k : ℕ). processAt (forgetting (a .group)) k .decided) t ∙ before))
 
-  depth-next : (a : DeepState) (s : Step) → DeepBasic vs a → decidedIn a i ≡ true → processDepth (next a s) i ≡ processDepth a i
+  depth-next : (a : State) (s : Step) → DeepBasic vs a → processOf a i .decided ≡ true → processDepth (next a s) i ≡ processDepth a i
   depth-next a s h e =
       depth-unheard vs a h s i lo
-      (λ w t. never (heard-undecided (a .group) s (w .delivery) (w .not-idle)) (ap (λ (k : ℕ). decidedIn a k) t ∙ e))
+      (λ w t. never (heard-undecided (a .group) s (w .delivery) (w .not-idle)) (ap (λ (k : ℕ). processOf a k .decided) t ∙ e))
 
-  decided-depth : (a : DeepState) (ts : List Step) → DeepBasic vs a → i ≤ greatestSize → decidedIn a i ≡ true → processDepth (after a ts) i ≡ processDepth a i
+  decided-depth : (a : State) (ts : List Step) → DeepBasic vs a → i ≤ greatestSize → processOf a i .decided ≡ true → processDepth (after a ts) i ≡ processDepth a i
   decided-depth a ts h hi e =
-      deep-throughout vs (λ (b : DeepState). (decidedIn b i ≡ true) × (processDepth b i ≡ processDepth a i))
+      deep-throughout vs (λ (b : State). (processOf b i .decided ≡ true) × (processDepth b i ≡ processDepth a i))
       (λ b s k p. (decided-next b s k hi (p .0), depth-next b s k (p .0) ∙ p .1)) a ts h (e, refl) .1
 
 pub decision-depth-stays : DecisionDepthStays
 decision-depth-stays vs l d ss b ts i o e =
-    decided-depth vs i (o .low) (at vs l d ss) ts (deep-basic vs l d ss b) (omega (arith, o .high, b .begins .few)) e
+    decided-depth vs i (o .low) (at vs l d ss) ts (deep-basic vs l d ss b) (omega (arith, o .high, b .few)) e
 
 -- ---- what is known of a process, of the entries, and of a state
 
@@ -128,7 +130,7 @@ record Entries (l d : List ℕ) : Type 0 where
   first-depth : getD d 0 0 ≡ 0
   relayed : (j : ℕ) → 2 ≤ j → j ≤ greatestSize → getD l (slot 0 j kindE) 0 ≢ 0 → getD d (slot 0 j kindE) 0 ≡ 1
 
-record Good (took : ℕ → Bool) (a : DeepState) : Type 0 where
+record Good (took : ℕ → Bool) (a : State) : Type 0 where
   each : (i : ℕ) → 1 ≤ i → i ≤ a .group .n → Early i (took i) (processAt (a .group) i) (processDepth a i) (getD (a .store) (slot 0 i kindE) 0)
   entries : Entries (a .store) (a .depths)
 
@@ -178,18 +180,18 @@ first-sent n i x l t long is =
 -- ---- a step that is not cut
 
 -- a process takes it, with its event
-record Took (a : DeepState) (s : Step) : Type 0 where
+record Took (a : State) (s : Step) : Type 0 where
   passed : DeepPassed (a .group) (a .store) (a .depths) s
   busy : idle (a .group) s ≡ false
-  applies : applied a s ≡ true
+  applies : says a s .applied ≡ true
   group : next a s .group
       ≡ withDepth (withProcess (a .group) (takerOf s) (eventOf (a .group) (a .store) s .process)) (takerOf s) (depthAfter (a .group) (a .depths) s)
   store : next a s .store ≡ handOvers (takerOf s) (eventOf (a .group) (a .store) s) (a .store)
   taking : Taking (a .group .n) (takerOf s) (eventOf (a .group) (a .store) s)
 
 -- or it changes nothing
-step-took : (vs : List ℕ) (a : DeepState) (s : Step) → DeepBasic vs a → isCut s ≡ false → ((next a s ≡ a) × (applied a s ≡ false)) ⊎ Took a s
-unfolding next stepped settled base.settled deepened datedBy course unlessRefused orIdle idles cutIf
+step-took : (vs : List ℕ) (a : State) (s : Step) → DeepBasic vs a → isCut s ≡ false → ((next a s ≡ a) × (says a s .applied ≡ false)) ⊎ Took a s
+unfolding next stepped settled course unlessRefused orIdle idles cutIf
 step-took vs a s h uncut = go (refusal g l d s) refl
   where
     g : Group
@@ -208,10 +210,10 @@ step-took vs a s h uncut = go (refusal g l d s) refl
     x = eventOf g l s
 
     still : (c : Course) → course g l d s ≡ c → stateOf (settled g l d k c) ≡ a → settled g l d k c .says .applied ≡ false
-        → ((next a s ≡ a) × (applied a s ≡ false)) ⊎ Took a s
+        → ((next a s ≡ a) × (says a s .applied ≡ false)) ⊎ Took a s
     still c e f u = inl (ap (λ (c : Course). stateOf (settled g l d k c)) e ∙ f, ap (λ (c : Course). settled g l d k c .says .applied) e ∙ u)
 
-    took : DeepPassed g l d s → idle g s ≡ false → course g l d s ≡ Takes (takerOf s) x → ((next a s ≡ a) × (applied a s ≡ false)) ⊎ Took a s
+    took : DeepPassed g l d s → idle g s ≡ false → course g l d s ≡ Takes (takerOf s) x → ((next a s ≡ a) × (says a s .applied ≡ false)) ⊎ Took a s
     took p f e =
         inr
         (record {
@@ -224,15 +226,15 @@ step-took vs a s h uncut = go (refusal g l d s) refl
         })
 
     by : DeepPassed g l d s → course g l d s ≡ orIdle (idle g s) (isCut s) (takerOf s) (processAt g (takerOf s)) x → (t : Bool) → idle g s ≡ t
-        → ((next a s ≡ a) × (applied a s ≡ false)) ⊎ Took a s
+        → ((next a s ≡ a) × (says a s .applied ≡ false)) ⊎ Took a s
     by p e true f = still Idles (rw (e, f, uncut)) refl refl
     by p e false f = took p f (rw (e, f, uncut))
 
-    go : (m : ℕ) → refusal g l d s ≡ m → ((next a s ≡ a) × (applied a s ≡ false)) ⊎ Took a s
+    go : (m : ℕ) → refusal g l d s ≡ m → ((next a s ≡ a) × (says a s .applied ≡ false)) ⊎ Took a s
     go zero e = by (deep-passed g l d s e) (ap (λ (m : ℕ). unlessRefused m g l s) e) (idle g s) refl
     go (suc m) e = still (Refuses (suc m)) (ap (λ (m : ℕ). unlessRefused m g l s) e) refl refl
 
-module _ (vs : List ℕ) (a : DeepState) (h : DeepBasic vs a) (s : Step) (t : Took a s) where
+module _ (vs : List ℕ) (a : State) (h : DeepBasic vs a) (s : Step) (t : Took a s) where
   abbrev taker : ℕ
   taker = takerOf s
 
@@ -325,7 +327,7 @@ module _ (vs : List ℕ) (a : DeepState) (h : DeepBasic vs a) (s : Step) (t : To
 
 -- ---- whoever has taken an E, after a step
 
-abbrev tookBy : (ℕ → Bool) → DeepState → Step → ℕ → Bool
+abbrev tookBy : (ℕ → Bool) → State → Step → ℕ → Bool
 tookBy took a s i = took i || (takesE a s && eqb (takerOf s) i)
 
 or-none : (a b : Bool) → b ≡ false → (a || b) ≡ a
@@ -340,7 +342,7 @@ and-no : (a b : Bool) → b ≡ false → (a && b) ≡ false
 and-no true b e = e
 and-no false b e = refl
 
-module _ (took : ℕ → Bool) (a : DeepState) (s : Step) where
+module _ (took : ℕ → Bool) (a : State) (s : Step) where
   -- where the step takes none, and but for its taker, those of before
   took-none : takesE a s ≡ false → (m : ℕ) → tookBy took a s m ≡ took m
   took-none e m = or-none (took m) (takesE a s && eqb (takerOf s) m) (ap (λ (b : Bool). b && eqb (takerOf s) m) e)
@@ -355,7 +357,7 @@ module _ (took : ℕ → Bool) (a : DeepState) (s : Step) where
       (and-both (takesE a s) (eqb (takerOf s) (takerOf s)) e (eq-eqb (takerOf s) (takerOf s) refl))
 
 -- the same is known where the same have taken one
-good-same : (took took' : ℕ → Bool) (a : DeepState) → ((m : ℕ) → took' m ≡ took m) → Good took a → Good took' a
+good-same : (took took' : ℕ → Bool) (a : State) → ((m : ℕ) → took' m ≡ took m) → Good took a → Good took' a
 good-same took took' a same good =
     record {
       each = λ i lo hi.
@@ -510,7 +512,7 @@ not-there n l d i j r k e few kind more known early sent =
 
 -- ---- a step that delivers an E
 
-module _ (vs : List ℕ) (a : DeepState) (h : DeepBasic vs a) (took : ℕ → Bool) (good : Good took a) (i j r : ℕ) (c : Bool) (t : Took a (DeliverE i j r c))
+module _ (vs : List ℕ) (a : State) (h : DeepBasic vs a) (took : ℕ → Bool) (good : Good took a) (i j r : ℕ) (c : Bool) (t : Took a (DeliverE i j r c))
     (led : (not (takesE a (DeliverE i j r c)) || (took i || eqb j 1)) ≡ true) where
   abbrev step : Step
   step = DeliverE i j r c
@@ -567,7 +569,7 @@ module _ (vs : List ℕ) (a : DeepState) (h : DeepBasic vs a) (took : ℕ → Bo
   -- its depth after it
   deeper : processDepth (next a step) i ≡ max (processDepth a i) (messageDepth a (slot r j kindE) + 1)
   unfolding takerOf delivers slotOf
-  deeper = depth-heard vs a h step (record { delivery = refl; taken = t .applies; not-idle = t .busy })
+  deeper = depth-heard vs a h step (record { delivery = refl; applied = t .applies; not-idle = t .busy })
 
   hops : Hop i (before .estimates) (getD (a .store) place 0) j (processDepth (next a step) i)
   hops =
@@ -616,7 +618,7 @@ module _ (vs : List ℕ) (a : DeepState) (h : DeepBasic vs a) (took : ℕ → Bo
       })
 
   -- where it decides, its depth is 2
-  decides-two : 2 ≤ a .group .n → decidedIn (next a step) i ≡ true → processDepth (next a step) i ≡ 2
+  decides-two : 2 ≤ a .group .n → processOf (next a step) i .decided ≡ true → processDepth (next a step) i ≡ 2
   unfolding takerOf
   decides-two two d =
       let now = heeded .majority unmoved (ap (λ (p : Process). p .decided) (sym (own-process vs a h step t)) ∙ d) in
@@ -656,7 +658,7 @@ calm-early i t p q k k' e e' stay m old = record { round = m .round ∙ old .rou
           heard = λ j two y. omega (arith, w .1, o .heard j two (holders (w .2) j y));
         }
 
-module _ (vs : List ℕ) (a : DeepState) (h : DeepBasic vs a) (took : ℕ → Bool) (good : Good took a) where
+module _ (vs : List ℕ) (a : State) (h : DeepBasic vs a) (took : ℕ → Bool) (good : Good took a) where
   -- a step that takes no E and hands none over
   good-calm : (s : Step) → Took a s → takesE a s ≡ false → Mild ⊥ (eventOf (a .group) (a .store) s .first) → Mild ⊥ (eventOf (a .group) (a .store) s .second)
       → Calm (processAt (a .group) (takerOf s)) (eventOf (a .group) (a .store) s .process) (processDepth a (takerOf s)) (processDepth (next a s) (takerOf s))
@@ -696,14 +698,14 @@ module _ (vs : List ℕ) (a : DeepState) (h : DeepBasic vs a) (took : ℕ → Bo
   good-next s plain-step led =
       by (step-took vs a s h (not-true (isCut s) (and-right (not (isSuspicion s)) (not (isCut s)) plain-step)))
     where
-      by : ((next a s ≡ a) × (applied a s ≡ false)) ⊎ Took a s → Good (tookBy took a s) (next a s)
+      by : ((next a s ≡ a) × (says a s .applied ≡ false)) ⊎ Took a s → Good (tookBy took a s) (next a s)
       by (inl (e, u)) =
-          subst (Good (tookBy took a s)) (sym e) (good-same took (tookBy took a s) a (took-none took a s (and-no (deliversE s) (applied a s) u)) good)
+          subst (Good (tookBy took a s)) (sym e) (good-same took (tookBy took a s) a (took-none took a s (and-no (deliversE s) (says a s .applied) u)) good)
       by (inr t) = good-taken s t (not-true (isSuspicion s) (and-left (not (isSuspicion s)) (not (isCut s)) plain-step)) led
 
 -- ---- the start
 
-good-start : (vs l d : List ℕ) → DeepBegins vs l d → Good (λ i. false) (startState vs l d)
+good-start : (vs l d : List ℕ) → Begins vs l d → Good (λ i. false) (startState vs l d)
 unfolding begun fresh
 good-start vs l d b =
     record {
@@ -717,17 +719,17 @@ good-start vs l d b =
           };
     }
   where
-    a : DeepState
+    a : State
     a = startState vs l d
 
     long : storeLength ≤ length l
-    long = b .begins .long
+    long = b .long
 
     store : a .store ≡ begun vs l .store
-    store = ap (λ (a : DeepState). a .store) (start-deep vs l d b)
+    store = ap (λ (a : State). a .store) (start-deep vs l d b)
 
     group : a .group ≡ begun vs l .group
-    group = ap (λ (a : DeepState). a .group) (start-deep vs l d b)
+    group = ap (λ (a : State). a .group) (start-deep vs l d b)
 
     other : (q : ℕ) → q ≢ 0 → q < storeLength → getD (a .store) q 0 ≡ 0
     other q ne lt = ap (λ (m : List ℕ). getD m q 0) store ∙ opened-other (getD vs 0 0) l long q ne lt
@@ -746,14 +748,14 @@ good-start vs l d b =
     each : (i : ℕ) → 1 ≤ i → i ≤ a .group .n → Early i false (processAt (a .group) i) (processDepth a i) (getD (a .store) (slot 0 i kindE) 0)
     each i lo hi =
         let le : i ≤ length vs = omega (arith, ap (λ (g : Group). g .n) group, started-size vs (length vs)) in
-        let is = ap (λ (g : Group). processAt g i) group ∙ started-process vs (length vs) i lo le (b .begins .few) in
+        let is = ap (λ (g : Group). processAt g i) group ∙ started-process vs (length vs) i lo le (b .few) in
         record {
           round = ap (λ (p : Process). p .round) is;
           phase = ap (λ (p : Process). p .phase) is;
           undecided = λ u.
               record {
                 untaken = λ f. (
-                  ap (λ (b : DeepState). processDepth b i) (start-deep vs l d b) ∙ depth-started vs (length vs) i (b .begins .few) (omega (arith, b .begins .few)),
+                  ap (λ (b : State). processDepth b i) (start-deep vs l d b) ∙ depth-started vs (length vs) i (b .few) (omega (arith, b .few)),
                   ap (λ (p : Process). p .estimates) is,
                 );
                 taken = λ f. never refl f;
@@ -765,9 +767,9 @@ good-start vs l d b =
 -- ---- statement 13
 
 -- from any such state on: process i decides by the E after the steps ts
-two-from : (vs : List ℕ) (a : DeepState) (took : ℕ → Bool) (ts us : List Step) (i j r : ℕ) (c : Bool) → DeepBasic vs a → Good took a → 2 ≤ length vs
+two-from : (vs : List ℕ) (a : State) (took : ℕ → Bool) (ts us : List Step) (i j r : ℕ) (c : Bool) → DeepBasic vs a → Good took a → 2 ≤ length vs
     → plain (ts ++ (DeliverE i j r c ∷ us)) ≡ true → ledBy took a (ts ++ (DeliverE i j r c ∷ us)) ≡ true
-    → decidedIn (after a ts) i ≡ false → decidedIn (next (after a ts) (DeliverE i j r c)) i ≡ true
+    → processOf (after a ts) i .decided ≡ false → processOf (next (after a ts) (DeliverE i j r c)) i .decided ≡ true
     → processDepth (next (after a ts) (DeliverE i j r c)) i ≡ 2
 unfolding after plain ledBy takerOf senderOf
 two-from vs a took [] us i j r c h good two p led old new =
@@ -779,8 +781,8 @@ two-from vs a took [] us i j r c h good two p led old new =
     rest : Bool
     rest = ledBy (tookBy took a s) (next a s) us
 
-    by : ((next a s ≡ a) × (applied a s ≡ false)) ⊎ Took a s → processDepth (next a s) i ≡ 2
-    by (inl (e, u)) = never (ap (λ (b : DeepState). decidedIn b i) e ∙ old) new
+    by : ((next a s ≡ a) × (says a s .applied ≡ false)) ⊎ Took a s → processDepth (next a s) i ≡ 2
+    by (inl (e, u)) = never (ap (λ (b : State). processOf b i .decided) e ∙ old) new
     by (inr t) =
         decides-two vs a h took good i j r c t (and-left (not (takesE a s) || (took i || eqb j 1)) rest led) (omega (arith, deep-size vs a h)) new
 two-from vs a took (s ∷ ts) us i j r c h good two p led old new =
@@ -800,6 +802,6 @@ two-steps vs l d ss b ts us i j r c two p led split o old new =
     two-from vs (startState vs l d) (λ i. false) ts us i j r c (deep-start vs l d b) (good-start vs l d b) two (ap plain (sym split) ∙ p)
     (ap (ledBy (λ i. false) (startState vs l d)) (sym split) ∙ led) old new in (
       now,
-      ap (λ (ss : List Step). processDepth (at vs l d ss) i) split ∙ ap (λ (b : DeepState). processDepth b i) (deep-more (startState vs l d) ts (s ∷ us))
-          ∙ decided-depth vs i (o .low) (next a s) us (deep-next vs a (deep-basic vs l d ts b) s) (omega (arith, o .high, b .begins .few)) new ∙ now,
+      ap (λ (ss : List Step). processDepth (at vs l d ss) i) split ∙ ap (λ (b : State). processDepth b i) (deep-more (startState vs l d) ts (s ∷ us))
+          ∙ decided-depth vs i (o .low) (next a s) us (deep-next vs a (deep-basic vs l d ts b) s) (omega (arith, o .high, b .few)) new ∙ now,
     )

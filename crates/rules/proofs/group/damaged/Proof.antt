@@ -1,9 +1,7 @@
 -- `damaged` meets its contract: before each turn `sound` says whether the processes passed of 1..n are whole and not too deep. Assumes nothing.
 use Rattle.rules.proofs.RowLaws.{among-in}
-use Rattle.rules.proofs.AllLaws.{all-none, all-both}
-use Rattle.rules.specs.Depths.{damaged}
-use Rattle.rules.specs.Refusals.{allOf, whole}
-use Rattle.rules.specs.Refusals as table
+use Rattle.rules.proofs.AllLaws.{all-none}
+use Rattle.rules.specs.Refusals.{damaged, allOf, whole}
 use Rattle.rules.specs.Records.{processAt, depthAt, groupOf}
 use Rattle.rules.specs.Limits.{deepestProcess, among}
 use Rattle.rules.specs.declared.group.Group.{Group}
@@ -33,10 +31,6 @@ and-true : (b : Bool) → (b && true) ≡ b
 and-true true = refl
 and-true false = refl
 
-either : (a b : Bool) → not (a && b) ≡ (not a || not b)
-either true b = refl
-either false b = refl
-
 -- of the first k of 1..n: one more, where n has it
 module _ (p : ℕ → Bool) where
   all-next : (k : ℕ) → allOf p (k + 1) ≡ (allOf p k && p (k + 1))
@@ -56,16 +50,12 @@ module _ (p : ℕ → Bool) where
 
 module _ (g : Group) where
   by-size : among 16 (g .n) ≡ false → true ≡ damaged g
-  unfolding damaged table.damaged
+  unfolding damaged
   by-size a = rw a
 
   by-all : {sound : Bool} → among 16 (g .n) ≡ true → sound ≡ allOf (fitIn g) (g .n) → not sound ≡ damaged g
-  unfolding damaged table.damaged
-  by-all a b =
-      let p : ℕ → Bool = λ i. whole (g .n) (processAt g i) in
-      let q : ℕ → Bool = λ i. leb (depthAt g i) deepestProcess in
-      ap not (b ∙ all-both p q (g .n)) ∙ either (allOf p (g .n)) (allOf q (g .n))
-      ∙ ap (λ (x : Bool). not (x && allOf p (g .n)) || not (allOf q (g .n))) (sym a)
+  unfolding damaged
+  by-all a b = ap not b ∙ ap (λ (x : Bool). not (x && allOf (fitIn g) (g .n))) (sym a)
 
 too-small : (m : ℕ) → m ≡ 0 → among 16 m ≡ false
 unfolding among

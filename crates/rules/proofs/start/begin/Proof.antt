@@ -1,7 +1,6 @@
 -- `begin` meets its contract: the clearings, then the handing over. Assumes nothing.
 use Rattle.rules.specs.Depths.{dated}
-use Rattle.rules.specs.Depths as deep
-use Rattle.rules.specs.Start.{opened, firstMessage}
+use Rattle.rules.specs.Start.{firstMessage, opened, openedDepths}
 use Rattle.rules.specs.Store.{handOver, messageRound}
 use native.Mathlib.Omega.{arith}
 use mathlib.Core.Path.{ap, ap₂, _∙_}
@@ -14,7 +13,7 @@ unfolding messageRound
 hand-over-requires c κs = omega (arith, c .before .before .before .before .before .before .clear .kept, c .before .before .before .before .before .before .before .before .before .before .before .pre)
 
 returns : tie.Need-returns
-unfolding opened deep.opened
+unfolding opened openedDepths
 returns c =
     let m = firstMessage (c .before .before .before .before .before .before .before .before .before .before .before .before .before .before .before .before .args .value) in
     let h = c .before .before .before .before .hand-over .ensures in

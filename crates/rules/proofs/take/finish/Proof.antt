@@ -1,8 +1,8 @@
 -- `finish` meets its contract: the record and the depth are put back, then the messages are handed over. Assumes nothing.
 use Rattle.rules.proofs.CourseLaws.{finishes}
+use Rattle.rules.specs.Answers.{said}
 use Rattle.rules.specs.Step.{decidesNow}
 use Prim.Native.Nat.{ℕ, max}
-use Rattle.rules.specs.Answers.{said}
 use Rattle.rules.specs.Records.{processAt, decidedIn}
 use mathlib.Core.Bool.{Bool, _&&_, not}
 use mathlib.Core.Path.{ap, _∙_}

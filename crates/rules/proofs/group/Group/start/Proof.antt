@@ -1,9 +1,8 @@
 -- `Group::start` meets its contract: the refusals, then the records and both stores. Assumes nothing.
 use Rattle.rules.proofs.RowLaws.{row-zero, among-true}
-use Rattle.rules.specs.Depths.{startRefusal, outcome, opened, unlessRefusedStart, started}
-use Rattle.rules.specs.Start.{begun}
-use Rattle.rules.specs.Refusals.{short, miscounted, startRefusalBy}
-use Rattle.rules.specs.Answers.{said, saysApplied, saysRefused}
+use Rattle.rules.specs.Refusals.{startRefusal, short, miscounted}
+use Rattle.rules.specs.Answers.{outcome, said, saysApplied, saysRefused}
+use Rattle.rules.specs.Start.{startedTo, opened, openedDepths, unlessRefusedStart, started}
 use Rattle.rules.specs.Records.{blankGroup}
 use Rattle.rules.specs.Limits.{greatestSize, storeLength, among}
 use Rattle.rules.specs.declared.group.Group.{Group}
@@ -27,9 +26,9 @@ module _ (vs l d : List ℕ) where
       go zero h z = absurd (z refl)
       go (suc m) h z = rw h
 
-  starting : {g : Group} {last deeper : List ℕ} → startRefusal vs l d ≡ 0 → g ≡ begun vs l .group
-      → (last ≡ begun vs l .store) × (deeper ≡ opened (getD vs 0 0) l d) → outcome g last deeper (saysApplied 1 false) ≡ started vs l d
-  unfolding started unlessRefusedStart begun
+  starting : {g : Group} {last deeper : List ℕ} → startRefusal vs l d ≡ 0 → g ≡ startedTo vs (length vs)
+      → (last ≡ opened (getD vs 0 0) l) × (deeper ≡ openedDepths (getD vs 0 0) l d) → outcome g last deeper (saysApplied 1 false) ≡ started vs l d
+  unfolding started unlessRefusedStart
   starting z e h = (λ t. outcome (e t) (h .0 t) (h .1 t) (saysApplied 1 false)) ∙ rw z
 
   -- what a start that is not refused knows
@@ -40,7 +39,7 @@ module _ (vs l d : List ℕ) where
     high : length vs ≤ greatestSize
 
   given : startRefusal vs l d ≡ 0 → Given
-  unfolding startRefusal startRefusalBy short miscounted
+  unfolding startRefusal short miscounted
   given z =
       let a = row-zero _ 10 _ z in
       let b = row-zero _ 13 _ (a .1) in
@@ -48,35 +47,35 @@ module _ (vs l d : List ℕ) where
       record { long = ltb-false (length l) storeLength (a .0); deep-long = ltb-false (length d) storeLength (b .0); low = n .0; high = n .1 }
 
 returns : tie.Need-returns
-unfolding said startRefusal startRefusalBy short miscounted
+unfolding said startRefusal short miscounted
 returns c = refusing _ _ _ (c .none .ensures) (sym (c .before .before .start-refusal .ensures)) (c .before .if1 .taken)
 
 fill-requires : tie.Need-fill-requires
-unfolding blankGroup startRefusal startRefusalBy short miscounted
+unfolding blankGroup startRefusal short miscounted
 fill-requires c κs =
     let a = c .before .before .before .before .before .before .before .before .before .args in
     (given (a .values .now) (a .store .now) (a .depths .now) (sym (c .before .before .before .before .before .start-refusal .ensures) ∙ c .before .before .before .before .if1 .left) .high, refl)
 
 shared-slice-read-begin : tie.Need-shared-slice-read-begin
-unfolding startRefusal startRefusalBy short miscounted
+unfolding startRefusal short miscounted
 shared-slice-read-begin c =
     let a = c .before .before .before .before .before .before .before .before .before .before .before .args in
     omega (arith, given (a .values .now) (a .store .now) (a .depths .now) (sym (c .before .before .before .before .before .before .before .start-refusal .ensures) ∙ c .before .before .before .before .before .before .if1 .left) .low)
 
 begin-requires : tie.Need-begin-requires
-unfolding startRefusal startRefusalBy short miscounted
+unfolding startRefusal short miscounted
 begin-requires c κs =
     let a = c .before .before .before .before .before .before .before .before .before .before .before .before .before .args in
     let h = given (a .values .now) (a .store .now) (a .depths .now) (sym (c .before .before .before .before .before .before .before .before .before .start-refusal .ensures) ∙ c .before .before .before .before .before .before .before .before .if1 .left) in (h .long, h .deep-long)
 
 cast-t27 : tie.Need-cast-t27
-unfolding startRefusal startRefusalBy short miscounted
+unfolding startRefusal short miscounted
 cast-t27 c =
     let a = c .before .before .before .before .before .before .before .before .before .before .before .before .before .before .before .before .before .before .args in
     omega (arith, given (a .values .now) (a .store .now) (a .depths .now) (sym (c .before .before .before .before .before .before .before .before .before .before .before .before .before .before .start-refusal .ensures) ∙ c .before .before .before .before .before .before .before .before .before .before .before .before .before .if1 .left) .high)
 
 returns-2 : tie.Need-returns-2
-unfolding said begun startRefusal startRefusalBy short miscounted
+unfolding said startRefusal short miscounted
 returns-2 c = starting _ _ _ (sym (c .before .before .before .before .before .before .before .before .before .before .before .before .before .before .start-refusal .ensures) ∙ c .before .before .before .before .before .before .before .before .before .before .before .before .before .if1 .left) (c .before .before .before .before .before .before .before .before .fill .ensures) (c .before .before .before .before .begin .ensures)
 
 pub start-spec : {M : Type 1} → statement M
