@@ -15,16 +15,16 @@ use Rattle.rules.specs.Run.{State, next, after, answers}
 use Rattle.rules.specs.Safety.{Begins, at, Of, Holds, says, FirstValue, sumSent, recoversOf, Longest}
 use Rattle.rules.specs.declared.group.Group.{Group}
 use Rattle.rules.specs.declared.step.Step.{Step}
-use Rattle.rules.proofs.Safety.Depths.{deep-more}
-use Rattle.rules.proofs.Safety.Theorem.{safety}
+use Rattle.rules.proofs.Depths.Basics.{deep-more}
+use Rattle.rules.proofs.Theorem.{safety}
 use Rattle.text.specs.Number.{most}
 use Rattle.schedule.specs.Counts.{none, isRefused, counted, countedAll}
 use Rattle.schedule.specs.Schedule.{Schedule, Reading, sound, readFile, Every, Fits}
 use Rattle.schedule.specs.Run.{outcome, countsOf, begins, between, atEnd, hasRun, runBy, runOf}
 use Rattle.schedule.specs.Promise.{AddsUp, decidedIn, Promise, Promised}
 use Rattle.schedule.specs.declared.counts.Counts.{Counts}
-use Rattle.schedule.proofs.FileLaws.{file-read}
-use Rattle.schedule.proofs.DecidedLaws.{start-decided, reached-start, reached-after, run-decided}
+use Rattle.schedule.proofs.RoundTrip.File.{file-read}
+use Rattle.schedule.proofs.Running.Decided.{start-decided, reached-start, reached-after, run-decided}
 
 -- ---- the counts of a section
 

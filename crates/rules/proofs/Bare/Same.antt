@@ -26,11 +26,11 @@ use Rattle.rules.specs.Parts.{numberRows}
 use Rattle.rules.proofs.Bare.Step as base
 use Rattle.rules.proofs.Bare.Run.{forgotten}
 use Rattle.rules.proofs.Bare.Run as run
-use Rattle.rules.proofs.StoreLaws.{place-lt}
-use Rattle.rules.proofs.SoundLaws.{Whole, Sound, facts-sound, Fine, course-fine}
-use Rattle.rules.proofs.DepthLaws.{deep-sound, deep-facts, facts-deep}
-use Rattle.rules.proofs.ForgetLaws.{process-forgets, depth-forgets, forget-with, forget-deep}
-use Rattle.rules.proofs.CourseLaws.{numbers-refuse, held-course, taker-low, place-low}
+use Rattle.rules.proofs.Laws.Store.{place-lt}
+use Rattle.rules.proofs.Laws.Sound.{Whole, Sound, facts-sound, Fine, course-fine}
+use Rattle.rules.proofs.Laws.Passing.{deep-sound, deep-facts, facts-deep}
+use Rattle.rules.proofs.Laws.Column.{process-forgets, depth-forgets, forget-with, forget-deep}
+use Rattle.rules.proofs.Laws.Course.{numbers-refuse, held-course, taker-low, place-low}
 
 -- the rows of the table do not look past 3 and 4 where one of them refuses
 rows-same : (t u w : Bool) (g : Group) (l : List ℕ) (s : Step) → (numberRows (g .n) s ≡ 0 → w ≡ false) → base.refusalBy t u w g l s ≡ base.refusalBy t u false g l s

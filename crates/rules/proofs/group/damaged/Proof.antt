@@ -1,6 +1,6 @@
 -- `damaged` meets its contract: before each turn `sound` says whether the processes passed of 1..n are whole and not too deep. Assumes nothing.
-use Rattle.rules.proofs.RowLaws.{among-in}
-use Rattle.rules.proofs.AllLaws.{all-none}
+use Rattle.rules.proofs.Laws.Row.{among-in}
+use Rattle.rules.proofs.Laws.All.{all-none}
 use Rattle.rules.specs.Refusals.{damaged, allOf, whole}
 use Rattle.rules.specs.Records.{processAt, depthAt, groupOf}
 use Rattle.rules.specs.Limits.{deepestProcess, among}

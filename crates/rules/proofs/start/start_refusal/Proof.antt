@@ -1,5 +1,5 @@
 -- `start_refusal` meets its contract: the three refusals in their order. Assumes nothing.
-use Rattle.rules.proofs.RowLaws.{among-in}
+use Rattle.rules.proofs.Laws.Row.{among-in}
 use Rattle.rules.specs.Refusals.{row}
 use Rattle.rules.specs.Limits.{among}
 use borrow.Author.Tests.{lt-ltb, le-ltb, lt-leb}

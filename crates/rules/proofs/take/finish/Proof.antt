@@ -1,5 +1,5 @@
 -- `finish` meets its contract: the record and the depth are put back, then the messages are handed over. Assumes nothing.
-use Rattle.rules.proofs.CourseLaws.{finishes}
+use Rattle.rules.proofs.Laws.Course.{finishes}
 use Rattle.rules.specs.Answers.{said}
 use Rattle.rules.specs.Step.{decidesNow}
 use Prim.Native.Nat.{ℕ, max}

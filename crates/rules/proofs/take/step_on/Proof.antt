@@ -1,5 +1,5 @@
 -- `step_on` meets its contract: refusals 11, 14 and 2 first, then the step. Assumes nothing.
-use Rattle.rules.proofs.CourseLaws.{short-outcome, shallow-outcome, damaged-outcome}
+use Rattle.rules.proofs.Laws.Course.{short-outcome, shallow-outcome, damaged-outcome}
 use Rattle.rules.specs.Refusals.{short}
 use Rattle.rules.specs.Answers.{said}
 use borrow.Author.Tests.{lt-ltb, le-ltb}

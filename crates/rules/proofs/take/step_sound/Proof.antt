@@ -1,6 +1,6 @@
 -- `step_sound` meets its contract: each case of the way has its outcome. Assumes nothing.
-use Rattle.rules.proofs.CourseLaws.{idle-outcome, refused-outcome, takes-handable}
-use Rattle.rules.proofs.WayLaws.{way-idles, way-refuses, way-takes, taken-lift, taken-way}
+use Rattle.rules.proofs.Laws.Course.{idle-outcome, refused-outcome, takes-handable}
+use Rattle.rules.proofs.Laws.Way.{way-idles, way-refuses, way-takes, taken-lift, taken-way}
 use Rattle.rules.specs.Answers.{said}
 use Rattle.rules.specs.Records.{depthAt}
 use mathlib.Core.Path.{sym, _∙_}

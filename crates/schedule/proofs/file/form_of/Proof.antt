@@ -2,7 +2,7 @@
 use mathlib.Core.Path.{_≡_, sym, _∙_}
 use lib.ListN.{length, length-map}
 use borrow.Author.Needs.{needs}
-use Rattle.schedule.proofs.ReadLaws.{opening-few, form-long, form-opening, form-sections, form-good}
+use Rattle.schedule.proofs.Reading.Whole.{opening-few, form-long, form-opening, form-sections, form-good}
 use Rattle.schedule.proofs.file.form_of.Statement.{statement}
 use Rattle.schedule.proofs.file.form_of.Tie as tie
 

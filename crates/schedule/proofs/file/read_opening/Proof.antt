@@ -1,6 +1,6 @@
 -- Each return is one case of the definition: no header, a wrong number of values, a faulty line, or all values. Assumes nothing.
 use borrow.Author.Needs.{needs}
-use Rattle.schedule.proofs.ReadLaws.{opening-none, opening-zero, opening-past, opening-broken, opening-good}
+use Rattle.schedule.proofs.Reading.Whole.{opening-none, opening-zero, opening-past, opening-broken, opening-good}
 use Rattle.schedule.proofs.file.read_opening.Statement.{statement}
 use Rattle.schedule.proofs.file.read_opening.Tie as tie
 

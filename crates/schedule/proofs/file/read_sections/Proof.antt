@@ -3,7 +3,7 @@ use Prim.Native.Nat.{_+_, _≤_}
 use native.Mathlib.Omega.{arith}
 use borrow.Author.Needs.{needs}
 use Rattle.schedule.specs.Limits.{mostSteps}
-use Rattle.schedule.proofs.ReadLaws.{warmup-few, measured-few, sections-none, sections-half, sections-more, sections-good}
+use Rattle.schedule.proofs.Reading.Whole.{warmup-few, measured-few, sections-none, sections-half, sections-more, sections-good}
 use Rattle.schedule.proofs.file.read_sections.Statement.{statement}
 use Rattle.schedule.proofs.file.read_sections.Tie as tie
 

@@ -1,7 +1,7 @@
 -- The word and the count behind it are read as the definition reads them; behind the last LF there is no line. Assumes nothing.
 use borrow.Author.Needs.{needs}
-use Rattle.schedule.proofs.AheadLaws.{ahead-last}
-use Rattle.schedule.proofs.ReadLaws.{header-missing, header-past, header-late}
+use Rattle.schedule.proofs.Reading.Ahead.{ahead-last}
+use Rattle.schedule.proofs.Reading.Whole.{header-missing, header-past, header-late}
 use Rattle.schedule.proofs.header.header_at.Statement.{statement}
 use Rattle.schedule.proofs.header.header_at.Tie as tie
 

@@ -4,7 +4,7 @@ use mathlib.Core.Path.{_≡_, refl, sym, _∙_}
 use native.Mathlib.Omega.{arith}
 use lib.ListN.{length, drop}
 use Rattle.schedule.specs.Header.{wordAt}
-use Rattle.schedule.proofs.LineCases.{word-done, word-past, word-other, word-more}
+use Rattle.schedule.proofs.Reading.Cases.{word-done, word-past, word-other, word-more}
 use Rattle.schedule.proofs.header.word_at.Statement.{statement}
 use Rattle.schedule.proofs.header.word_at.Tie as tie
 

@@ -1,6 +1,6 @@
 -- `lf::last_end` meets its contract. The loop's invariant: no LF stands at its place or past it. Assumes nothing.
 use native.Mathlib.Omega.{arith}
-use Rattle.schedule.proofs.AheadLaws.{Free, free-past, free-before, free-last, free-all}
+use Rattle.schedule.proofs.Reading.Ahead.{Free, free-past, free-before, free-last, free-all}
 use Rattle.schedule.proofs.lf.last_end.Statement.{statement}
 use Rattle.schedule.proofs.lf.last_end.Tie as tie
 

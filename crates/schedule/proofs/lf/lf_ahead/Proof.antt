@@ -2,7 +2,7 @@
 use Prim.Native.Nat.{_-_}
 use native.Mathlib.Omega.{arith}
 use lib.ListN.{length}
-use Rattle.schedule.proofs.AheadLaws.{Unseen, unseen-first, unseen-more, unseen-found, unseen-all}
+use Rattle.schedule.proofs.Reading.Ahead.{Unseen, unseen-first, unseen-more, unseen-found, unseen-all}
 use Rattle.schedule.proofs.lf.lf_ahead.Statement.{statement}
 use Rattle.schedule.proofs.lf.lf_ahead.Tie as tie
 

@@ -2,8 +2,8 @@
 use mathlib.Core.Path.{sym}
 use native.Mathlib.Omega.{arith}
 use borrow.Author.Tests.{not-true, not-false}
-use Rattle.schedule.proofs.AheadLaws.{ahead-in, ahead-past}
-use Rattle.schedule.proofs.LineCases.{no-place, end-place, end-plain, end-uncut, end-other, end-no-x, end-no-lf, end-cut}
+use Rattle.schedule.proofs.Reading.Ahead.{ahead-in, ahead-past}
+use Rattle.schedule.proofs.Reading.Cases.{no-place, end-place, end-plain, end-uncut, end-other, end-no-x, end-no-lf, end-cut}
 use borrow.Author.Needs.{needs}
 use Rattle.schedule.proofs.line.end_at.Statement.{statement}
 use Rattle.schedule.proofs.line.end_at.Tie as tie

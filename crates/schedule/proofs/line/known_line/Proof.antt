@@ -1,6 +1,6 @@
 -- `line::known_line` meets its contract. Each part of the line is known to be there, and its end tells whether the step is cut. Assumes nothing.
 use native.Mathlib.Omega.{arith}
-use Rattle.schedule.proofs.KnownLaws.{chain, first-known, second-known, third-known, end-read, line-read, line-inside}
+use Rattle.schedule.proofs.Reading.Known.{chain, first-known, second-known, third-known, end-read, line-read, line-inside}
 use borrow.Author.Needs.{needs}
 use Rattle.schedule.proofs.line.known_line.Statement.{statement}
 use Rattle.schedule.proofs.line.known_line.Tie as tie

@@ -1,7 +1,7 @@
 -- `line::known_next` meets its contract. A number that is wanted stands behind a space, so it is the number at the next place. Assumes nothing.
 use native.Mathlib.Omega.{arith}
-use Rattle.schedule.proofs.LineCases.{next-none}
-use Rattle.schedule.proofs.KnownLaws.{behind-here, behind-known, behind-read}
+use Rattle.schedule.proofs.Reading.Cases.{next-none}
+use Rattle.schedule.proofs.Reading.Known.{behind-here, behind-known, behind-read}
 use Rattle.schedule.proofs.line.known_next.Statement.{statement}
 use Rattle.schedule.proofs.line.known_next.Tie as tie
 

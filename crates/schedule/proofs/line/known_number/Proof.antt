@@ -5,7 +5,7 @@ use native.Mathlib.Omega.{arith}
 use lib.ListN.{length}
 use denote.Ref.{now}
 use Rattle.text.proofs.NumberLaws.{Digit, digit-here}
-use Rattle.schedule.proofs.KnownLaws.{Underway, underway-inside, underway-small, underway-more, underway-whole, begun}
+use Rattle.schedule.proofs.Reading.Known.{Underway, underway-inside, underway-small, underway-more, underway-whole, begun}
 use Rattle.schedule.proofs.line.known_number.Statement.{statement}
 use Rattle.schedule.proofs.line.known_number.Tie as tie
 

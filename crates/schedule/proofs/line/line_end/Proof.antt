@@ -1,7 +1,7 @@
 -- `line::line_end` meets its contract: each part that is read says which case of `lineAt` holds. Assumes nothing.
 use mathlib.Core.Path.{refl, sym, _∙_}
-use Rattle.schedule.proofs.AheadLaws.{letter-ahead, spaced-ahead, next-ahead}
-use Rattle.schedule.proofs.LineCases.{broken-place, line-other, line-no-first, line-no-second, line-no-third, line-place}
+use Rattle.schedule.proofs.Reading.Ahead.{letter-ahead, spaced-ahead, next-ahead}
+use Rattle.schedule.proofs.Reading.Cases.{broken-place, line-other, line-no-first, line-no-second, line-no-third, line-place}
 use borrow.Author.Needs.{needs}
 use Rattle.schedule.proofs.line.line_end.Statement.{statement}
 use Rattle.schedule.proofs.line.line_end.Tie as tie

@@ -1,8 +1,8 @@
 -- `line::spaced_at` meets its contract: the test says which case of `spacedAt` holds. Assumes nothing.
 use mathlib.Core.Path.{sym, _∙_}
 use native.Mathlib.Omega.{arith}
-use Rattle.schedule.proofs.AheadLaws.{ahead-past}
-use Rattle.schedule.proofs.LineCases.{spaced-is, spaced-not}
+use Rattle.schedule.proofs.Reading.Ahead.{ahead-past}
+use Rattle.schedule.proofs.Reading.Cases.{spaced-is, spaced-not}
 use borrow.Author.Needs.{needs}
 use Rattle.schedule.proofs.line.spaced_at.Statement.{statement}
 use Rattle.schedule.proofs.line.spaced_at.Tie as tie

@@ -2,9 +2,9 @@
 use mathlib.Core.Path.{refl, sym, _∙_}
 use borrow.Author.Needs.{needs}
 use borrow.Author.Tests.{not-true, not-false}
-use Rattle.schedule.proofs.AheadLaws.{ahead-is, ahead-none}
-use Rattle.schedule.proofs.NoLfLaws.{no-line}
-use Rattle.schedule.proofs.ReadLaws.{line-fails, line-fault, line-known, line-taken}
+use Rattle.schedule.proofs.Reading.Ahead.{ahead-is, ahead-none}
+use Rattle.schedule.proofs.Reading.NoLf.{no-line}
+use Rattle.schedule.proofs.Reading.Whole.{line-fails, line-fault, line-known, line-taken}
 use Rattle.schedule.proofs.line.step_line.Statement.{statement}
 use Rattle.schedule.proofs.line.step_line.Tie as tie
 

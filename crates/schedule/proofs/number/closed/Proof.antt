@@ -1,7 +1,7 @@
 -- Each return is one case of the definition: no number, the end of the file, another byte than LF, or LF. Assumes nothing.
 use mathlib.Core.Path.{sym}
 use borrow.Author.Needs.{needs}
-use Rattle.schedule.proofs.LineCases.{closed-none, closed-more, closed-past, closed-is}
+use Rattle.schedule.proofs.Reading.Cases.{closed-none, closed-more, closed-past, closed-is}
 use Rattle.schedule.proofs.number.closed.Statement.{statement}
 use Rattle.schedule.proofs.number.closed.Tie as tie
 

@@ -4,7 +4,7 @@ use native.Mathlib.Omega.{arith}
 use borrow.Author.Tests.{not-true, not-false}
 use denote.Ref.{now}
 use Rattle.text.proofs.NumberLaws.{Digit, digit-here, number-none, number-one, number-zero-more, number-more}
-use Rattle.schedule.proofs.AheadLaws.{ahead-in, ahead-digit}
+use Rattle.schedule.proofs.Reading.Ahead.{ahead-in, ahead-digit}
 use borrow.Author.Needs.{needs}
 use Rattle.schedule.proofs.number.decimal_at.Statement.{statement}
 use Rattle.schedule.proofs.number.decimal_at.Tie as tie

@@ -8,7 +8,7 @@ use denote.Ref.{now}
 use Rattle.text.specs.Number.{most, scan}
 use Rattle.schedule.specs.Parts.{Ahead}
 use Rattle.text.proofs.NumberLaws.{Digit, digit-here, at-more, at-over, at-stop}
-use Rattle.schedule.proofs.AheadLaws.{ahead-digit}
+use Rattle.schedule.proofs.Reading.Ahead.{ahead-digit}
 use Rattle.schedule.proofs.number.more_digits.Statement.{statement}
 use Rattle.schedule.proofs.number.more_digits.Tie as tie
 

@@ -1,7 +1,7 @@
 -- Each return is one case of the definition: no header, too many steps, a faulty line, or all lines. Assumes nothing.
 use native.Mathlib.Omega.{arith}
 use borrow.Author.Needs.{needs}
-use Rattle.schedule.proofs.ReadLaws.{part-none, part-many, part-broken, part-good, fault-below}
+use Rattle.schedule.proofs.Reading.Whole.{part-none, part-many, part-broken, part-good, fault-below}
 use Rattle.schedule.proofs.part.part_at.Statement.{statement}
 use Rattle.schedule.proofs.part.part_at.Tie as tie
 

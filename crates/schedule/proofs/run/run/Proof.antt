@@ -1,5 +1,5 @@
 -- `run::run` meets its contract: a faulty file is answered with its fault, a sound one with its run. Assumes nothing.
-use Rattle.schedule.proofs.WholeLaws.{run-bad, run-form, run-good}
+use Rattle.schedule.proofs.Running.Whole.{run-bad, run-form, run-good}
 use borrow.Author.Needs.{needs}
 use Rattle.schedule.proofs.run.run.Statement.{statement}
 use Rattle.schedule.proofs.run.run.Tie as tie

@@ -1,5 +1,5 @@
 -- `run::run_both` meets its contract: the second section begins where the first ends. Assumes nothing.
-use Rattle.schedule.proofs.WholeLaws.{both-first, both-second, both-ran}
+use Rattle.schedule.proofs.Running.Whole.{both-first, both-second, both-ran}
 use borrow.Author.Needs.{needs}
 use Rattle.schedule.proofs.run.run_both.Statement.{statement}
 use Rattle.schedule.proofs.run.run_both.Tie as tie

@@ -3,7 +3,7 @@ use Prim.Native.Nat.{_≤_}
 use mathlib.Core.Path.{sym, _∙_}
 use lib.ListN.{length}
 use lib.Seq.{length-take-le}
-use Rattle.schedule.proofs.WholeLaws.{sound-short, sound-ready, sound-both}
+use Rattle.schedule.proofs.Running.Whole.{sound-short, sound-ready, sound-both}
 use borrow.Author.Needs.{needs}
 use Rattle.schedule.proofs.run.run_sound.Statement.{statement}
 use Rattle.schedule.proofs.run.run_sound.Tie as tie

@@ -1,8 +1,8 @@
 -- The loop keeps that the lines from the start end where the lines from the place end, as far as the count is left. Assumes nothing.
 use Prim.Native.Nat.{_-_}
 use native.Mathlib.Omega.{arith}
-use Rattle.schedule.proofs.AheadLaws.{ahead-last}
-use Rattle.schedule.proofs.ReadLaws.{Checking, checking-none, checking-late, checking-broken, checking-on, checking-done}
+use Rattle.schedule.proofs.Reading.Ahead.{ahead-last}
+use Rattle.schedule.proofs.Reading.Whole.{Checking, checking-none, checking-late, checking-broken, checking-on, checking-done}
 use Rattle.schedule.proofs.section.check_steps.Statement.{statement}
 use Rattle.schedule.proofs.section.check_steps.Tie as tie
 

@@ -3,7 +3,7 @@ use mathlib.Core.Path.{refl}
 use Prim.Native.Nat.{_-_}
 use native.Mathlib.Omega.{arith}
 use borrow.Author.Needs.{needs}
-use Rattle.schedule.proofs.ReadLaws.{Filling, filling-none, filling-broken, filling-on, filling-done}
+use Rattle.schedule.proofs.Reading.Whole.{Filling, filling-none, filling-broken, filling-on, filling-done}
 use Rattle.schedule.proofs.values.read_values.Statement.{statement}
 use Rattle.schedule.proofs.values.read_values.Tie as tie
 

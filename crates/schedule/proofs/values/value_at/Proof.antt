@@ -1,7 +1,7 @@
 -- The decimal ends its line as the definition says; behind the last LF there is no line. Assumes nothing.
 use borrow.Author.Needs.{needs}
-use Rattle.schedule.proofs.AheadLaws.{ahead-last}
-use Rattle.schedule.proofs.ReadLaws.{value-late, value-closed}
+use Rattle.schedule.proofs.Reading.Ahead.{ahead-last}
+use Rattle.schedule.proofs.Reading.Whole.{value-late, value-closed}
 use Rattle.schedule.proofs.values.value_at.Statement.{statement}
 use Rattle.schedule.proofs.values.value_at.Tie as tie
 

@@ -1,5 +1,5 @@
 -- `Group::start` meets its contract: the refusals, then the records and both stores. Assumes nothing.
-use Rattle.rules.proofs.RowLaws.{row-zero, among-true}
+use Rattle.rules.proofs.Laws.Row.{row-zero, among-true}
 use Rattle.rules.specs.Refusals.{startRefusal, short, miscounted}
 use Rattle.rules.specs.Answers.{outcome, said, saysApplied, saysRefused}
 use Rattle.rules.specs.Start.{startedTo, opened, openedDepths, unlessRefusedStart, started}

@@ -1,5 +1,5 @@
 -- `Process::last_way` meets its contract: each kind of step has its own course. Assumes nothing.
-use Rattle.rules.proofs.CourseLaws.{numbers-E, numbers-S, numbers-F}
+use Rattle.rules.proofs.Laws.Course.{numbers-E, numbers-S, numbers-F}
 use Rattle.rules.specs.Parts.{lastCourse, lifted, lifts}
 use Rattle.rules.specs.Steps.{delivers}
 use Rattle.rules.specs.Step.{Takes}

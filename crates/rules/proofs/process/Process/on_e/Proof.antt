@@ -1,6 +1,6 @@
 -- `Process::on_e` meets its contract: it takes the stages of the definition, in their order. Assumes nothing.
 use borrow.Author.Needs.{needs}
-use Rattle.rules.proofs.ProcessLaws.{stages-E}
+use Rattle.rules.proofs.Laws.Process.{stages-E}
 use Rattle.rules.proofs.process.Process.on_e.Statement.{statement}
 use Rattle.rules.proofs.process.Process.on_e.Tie as tie
 

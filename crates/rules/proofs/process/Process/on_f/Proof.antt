@@ -1,7 +1,7 @@
 -- `Process::on_f` meets its contract: it takes the stages of the definition, in their order, and none before the last leaves the rounds 0 to 63. Assumes nothing.
 use borrow.Author.Needs.{needs}
 use Rattle.rules.specs.Events.{jumps, adopts}
-use Rattle.rules.proofs.ProcessLaws.{f-round, joined-F, stages-F}
+use Rattle.rules.proofs.Laws.Process.{f-round, joined-F, stages-F}
 use Rattle.rules.proofs.process.Process.on_f.Statement.{statement}
 use Rattle.rules.proofs.process.Process.on_f.Tie as tie
 

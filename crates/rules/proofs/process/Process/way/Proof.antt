@@ -1,5 +1,5 @@
 -- `Process::way` meets its contract: refused, or the last course. Assumes nothing.
-use Rattle.rules.proofs.CourseLaws.{held-names}
+use Rattle.rules.proofs.Laws.Course.{held-names}
 use Rattle.rules.specs.Parts.{heldRows, heldCourse, unlessHeld, lastCourse, lifted}
 use Rattle.rules.specs.Refusals.{isRecover}
 use Rattle.rules.specs.Step.{Refuses}

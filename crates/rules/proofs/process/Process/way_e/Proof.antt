@@ -2,7 +2,7 @@
 use Rattle.rules.specs.declared.course.Way.{Way}
 use Rattle.rules.specs.declared.process.Next.{Next}
 use Prim.Native.Nat.{ℕ}
-use Rattle.rules.proofs.StepLaws.{way-idle, way-heard}
+use Rattle.rules.proofs.Laws.Step.{way-idle, way-heard}
 use Rattle.rules.specs.Events.{onE, cutIf}
 use mathlib.Core.Path.{sym, _∙_, ap, ap₂}
 use borrow.Author.Needs.{needs}

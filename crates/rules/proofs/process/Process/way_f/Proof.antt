@@ -1,5 +1,5 @@
 -- `Process::way_f` meets its contract: idle, past the last round, or the event. Assumes nothing.
-use Rattle.rules.proofs.StepLaws.{past-idle, past-yes, past-no}
+use Rattle.rules.proofs.Laws.Step.{past-idle, past-yes, past-no}
 use Rattle.rules.specs.Events.{onF, cutIf}
 use Rattle.rules.specs.Limits.{lastRound}
 use Rattle.rules.specs.declared.course.Way.{Way}

@@ -1,7 +1,7 @@
 -- `Process::way_s` meets its contract: idle, or the event. Assumes nothing.
 use Rattle.rules.specs.declared.course.Way.{Way}
 use Rattle.rules.specs.declared.process.Next.{Next}
-use Rattle.rules.proofs.StepLaws.{way-idle, way-heard}
+use Rattle.rules.proofs.Laws.Step.{way-idle, way-heard}
 use Rattle.rules.specs.Events.{cutIf}
 use mathlib.Core.Path.{sym, _∙_, ap}
 use borrow.Author.Needs.{needs}

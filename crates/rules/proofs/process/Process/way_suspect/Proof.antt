@@ -2,7 +2,7 @@
 use Rattle.rules.specs.Step.{Takes}
 use Rattle.rules.specs.Parts.{lifted}
 use Rattle.rules.specs.Events.{cutIf}
-use Rattle.rules.proofs.StepLaws.{possible-yes, possible-no}
+use Rattle.rules.proofs.Laws.Step.{possible-yes, possible-no}
 use mathlib.Core.Path.{sym, _∙_, ap}
 use borrow.Author.Needs.{needs}
 use Rattle.rules.proofs.process.Process.way_suspect.Statement.{statement}

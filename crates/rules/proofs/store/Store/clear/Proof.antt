@@ -1,5 +1,5 @@
 -- `Store::clear` meets its contract: before each turn the entries and the depths below the place are cleared. Assumes nothing.
-use Rattle.rules.proofs.StoreLaws.{cleared-none, cleared-more}
+use Rattle.rules.proofs.Laws.Store.{cleared-none, cleared-more}
 use Rattle.rules.specs.Store.{cleared}
 use Rattle.rules.specs.Limits.{storeLength}
 use lib.ListN.{length, set, length-set}

@@ -1,5 +1,5 @@
 -- `Store::hand_over` meets its contract: nothing is written, or the entry at its place. Assumes nothing.
-use Rattle.rules.proofs.WayLaws.{hands-nothing, hands-spot, spot-low}
+use Rattle.rules.proofs.Laws.Way.{hands-nothing, hands-spot, spot-low}
 use native.Mathlib.Omega.{arith}
 use mathlib.Core.Path.{sym, _∙_}
 use borrow.Author.Needs.{needs}

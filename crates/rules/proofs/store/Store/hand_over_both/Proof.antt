@@ -1,6 +1,6 @@
 -- `Store::hand_over_both` meets its contract: the first message is handed over, then the second. Assumes nothing.
-use Rattle.rules.proofs.CourseLaws.{turned-small}
-use Rattle.rules.proofs.WayLaws.{hands-both}
+use Rattle.rules.proofs.Laws.Course.{turned-small}
+use Rattle.rules.proofs.Laws.Way.{hands-both}
 use native.Mathlib.Omega.{arith}
 use borrow.Author.Needs.{needs}
 use Rattle.rules.proofs.store.Store.hand_over_both.Statement.{statement}

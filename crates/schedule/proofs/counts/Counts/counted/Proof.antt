@@ -1,6 +1,6 @@
 -- `counts::Counts::counted` meets its contract: the answer says which counts grow. Assumes nothing.
 use native.Mathlib.Omega.{arith}
-use Rattle.schedule.proofs.CountsLaws.{bool-one, counted-idle, counted-refused, counted-applied}
+use Rattle.schedule.proofs.Running.Counts.{bool-one, counted-idle, counted-refused, counted-applied}
 use borrow.Author.Needs.{needs}
 use Rattle.schedule.proofs.counts.Counts.counted.Statement.{statement}
 use Rattle.schedule.proofs.counts.Counts.counted.Tie as tie

@@ -1,0 +1,12 @@
+-- What is argued of runs step by step: first of the run without depths, then carried over to the run that the contracts cite.
+pub mod Basics
+pub mod Cases
+-- fields and recoveries, what is stored, the store, soundness, what was handed over, tallies
+pub mod Fields
+pub mod Recoveries
+pub mod Stored
+pub mod Entries
+pub mod Sound
+pub mod Handing
+pub mod Tallies
+pub mod Carried
