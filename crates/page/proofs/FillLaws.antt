@@ -15,7 +15,7 @@ use Rattle.text.specs.Put.{Puts}
 use Rattle.text.proofs.PutLaws.{spelled-long, wrote-length, wrote-byte}
 use Rattle.page.specs.Limits.{longestOf}
 use Rattle.page.specs.Filled.{mark, filled}
-use Rattle.page.specs.Parts.{Piece, takes}
+use Rattle.page.specs.Private.{Piece, takes}
 use Rattle.page.proofs.PieceLaws.{piece-none, piece-put, piece-more, piece-within}
 
 -- ---- one byte of a template

@@ -6,7 +6,7 @@ use native.Mathlib.Omega.{arith}
 use lib.ListN.{length, length-append}
 use Rattle.text.specs.Put.{Puts}
 use Rattle.text.proofs.PutLaws.{wrote-length, wrote-more, wrote-same, wrote-none, puts-wrote}
-use Rattle.page.specs.Parts.{Piece}
+use Rattle.page.specs.Private.{Piece}
 
 -- no piece at all
 pub piece-none : (l : List ℕ) (at : ℕ) → at ≤ length l → Piece 0 l at [] l at

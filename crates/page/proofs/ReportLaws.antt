@@ -8,7 +8,8 @@ use native.Mathlib.Numerals.{add-one}
 use lib.ListN.{length, drop}
 use borrow.Author.Tests.{eq-eqb, ne-eqb}
 use Rattle.rules.specs.Limits.{greatestSize}
-use Rattle.rules.specs.Records.{recordOf, depthOf, blankGroup}
+use Rattle.rules.specs.Layout.{blankGroup}
+use Rattle.rules.specs.Records.{recordOf, depthOf}
 use Rattle.rules.specs.Start.{started}
 use Rattle.rules.specs.Run.{State, startState, next, after}
 use Rattle.rules.specs.declared.group.Group.{Group}
@@ -23,7 +24,7 @@ use Rattle.schedule.specs.Run.{Outcome, outcome, runBy, runOf, hasRun, notRun, 
 use Rattle.schedule.specs.declared.run.Ran.{Ran}
 use Rattle.page.specs.Limits.{longestStatus, longestEstimate, longestEnd, longestLine}
 use Rattle.page.specs.Report.{faultLine, statusPart, estimatePart, endPart, processLine, lineOfProcess, processLines, doneText, reportOf, Reports}
-use Rattle.page.specs.Parts.{Piece}
+use Rattle.page.specs.Private.{Piece}
 use Rattle.page.proofs.PieceLaws.{piece-more, piece-within}
 
 -- ---- process lines, one after the other

@@ -7,4 +7,4 @@ pub mod Filled
 -- the report's bytes
 pub mod Report
 -- for the contracts of private functions alone
-pub mod Parts
+pub mod Private

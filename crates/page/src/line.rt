@@ -6,7 +6,7 @@ ghost use lib.ListN.{length};
 ghost use Rattle.text.specs.Number.{pick};
 ghost use Rattle.page.specs.Limits.{longestOf};
 ghost use Rattle.page.specs.Filled.{filled};
-ghost use Rattle.page.specs.Parts.{Piece, takes};
+ghost use Rattle.page.specs.Private.{Piece, takes};
 use text::put::put_number;
 
 // Whether a byte of a template stands for a number, with k of so many taken.

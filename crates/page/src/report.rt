@@ -6,7 +6,7 @@ ghost use lib.ListN.{length};
 ghost use Rattle.rules.specs.Limits.{greatestSize};
 ghost use Rattle.page.specs.Limits as limits;
 ghost use Rattle.page.specs.Report as reports;
-ghost use Rattle.page.specs.Parts.{Piece};
+ghost use Rattle.page.specs.Private.{Piece};
 use crate::line::fill;
 use crate::line::fill_either;
 use rules::group::Group;

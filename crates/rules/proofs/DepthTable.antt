@@ -5,14 +5,14 @@ use mathlib.Core.Bool.{true}
 use lib.Count.{ones}
 use Rattle.rules.specs.Limits.{among}
 use Rattle.rules.specs.Tally.{holds, joined, meets, within}
-use Rattle.rules.specs.Records.{processAt, withProcess, depthIn, depthAt, withDepth, blankGroup}
+use Rattle.rules.specs.Layout.{processAt, withProcess, depthIn, depthAt, withDepth, blankGroup}
 use Rattle.rules.specs.Store.{placeOf, entryFor, handOver, turned, cleared}
 use Rattle.rules.specs.Events.{takes, enters, joinsEstimates, joinsSuspicions, decides, secondPhase, marks, paused, crashed, recovered, quiet}
 use Rattle.rules.specs.Events.{changed, jumpsIf, jumps, relaysIf, relays, decidesIf, decidesAt, goesToPhase2, goesToPhase2If, toPhase2}
 use Rattle.rules.specs.Events.{adoptsIf, adopts, opensIf, opens, entersNextIf, entersNextAt, onE, onS, onF, onDecision, onSuspect}
 use Rattle.rules.specs.Events.{onPause, onCrash, onRecover, cutIf}
-use Rattle.rules.specs.Steps.{takerOf, numbersOf, roundOf, delivers, slotOf, isCut, entryIn, eventOf}
-use Rattle.rules.specs.Idle.{pastFor, at, idleE, idleS, idleF, idle}
+use Rattle.rules.specs.Kinds.{takerOf, numbersOf, roundOf, delivers, slotOf, isCut, entryIn, eventOf}
+use Rattle.rules.specs.Idle.{pastFor, inPhase, idleE, idleS, idleF, idle}
 use Rattle.rules.specs.Depths.{deliveredDepth, raises, raised, depthAfter, datedIf, dated, datedBoth}
 use Rattle.rules.specs.Refusals.{row, allOf, every, short, miscounted, whole, damaged, strange, late, isRecover, down, unsent}
 use Rattle.rules.specs.Refusals.{misnamed, tooDeep, maySuspect, impossible, recoversPast, entersPast, startRefusal, refusal}
@@ -33,7 +33,7 @@ unfolding ones
     adoptsIf adopts opensIf opens entersNextIf entersNextAt onE onS onF onDecision onSuspect
     onPause onCrash onRecover cutIf
     takerOf numbersOf roundOf delivers slotOf isCut entryIn eventOf
-    pastFor at idleE idleS idleF idle
+    pastFor inPhase idleE idleS idleF idle
     deliveredDepth raises raised depthAfter datedIf dated datedBoth
     row among allOf every short miscounted whole damaged strange late isRecover down unsent
     misnamed tooDeep maySuspect impossible recoversPast entersPast startRefusal refusal

@@ -9,9 +9,9 @@ use Rattle.rules.specs.declared.process.Message.{Message}
 use Rattle.rules.specs.declared.process.Message.the-variants.{Nothing, E, S, F, Decision}
 use Rattle.rules.specs.declared.process.Next.{Next}
 use Rattle.rules.specs.declared.step.Step.{Step}
-use Rattle.rules.specs.Records.{depthAt}
+use Rattle.rules.specs.Layout.{depthAt}
 use Rattle.rules.specs.Store.{placeOf, handOver}
-use Rattle.rules.specs.Steps.{takerOf, delivers, slotOf}
+use Rattle.rules.specs.Kinds.{takerOf, delivers, slotOf}
 use Rattle.rules.specs.Idle.{idle}
 
 -- ---- the depth of a process

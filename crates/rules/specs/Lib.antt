@@ -4,11 +4,12 @@
 pub mod Limits
 -- "Records and the message store"
 pub mod Tally
+pub mod Layout
 pub mod Records
 pub mod Store
 -- "Steps" and "Repairs to the printed figure"
 pub mod Events
-pub mod Steps
+pub mod Kinds
 pub mod Idle
 -- request 2026-06
 pub mod Depths
@@ -24,4 +25,4 @@ pub mod Safety
 pub mod Table
 pub mod DepthTable
 -- for the contracts of private functions alone
-pub mod Parts
+pub mod Private

@@ -10,9 +10,9 @@ use Rattle.rules.specs.declared.step.Step.{Step}
 use Rattle.rules.specs.declared.step.Step.the-variants.{DeliverE, DeliverS, DeliverF, DeliverDecision, Suspect, Pause, Crash, Recover}
 use Rattle.rules.specs.Limits.{greatestSize, lastRound, tooMany, deepestMessage, deepestProcess, storeLength, among}
 use Rattle.rules.specs.Tally.{within}
-use Rattle.rules.specs.Records.{processAt, depthAt}
+use Rattle.rules.specs.Layout.{processAt, depthAt}
 use Rattle.rules.specs.Store.{proposerOf}
-use Rattle.rules.specs.Steps.{takerOf, numbersOf, roundOf, delivers, entryIn, eventOf}
+use Rattle.rules.specs.Kinds.{takerOf, numbersOf, roundOf, delivers, entryIn, eventOf}
 use Rattle.rules.specs.Idle.{idle}
 use Rattle.rules.specs.Depths.{deliveredDepth}
 

@@ -14,11 +14,12 @@ use Rattle.rules.specs.declared.step.Step.{Step}
 use Rattle.rules.specs.declared.step.Step.the-variants.{DeliverE, DeliverS, DeliverF, DeliverDecision, Suspect, Pause, Crash, Recover}
 use Rattle.rules.specs.Limits.{greatestSize, values, mostRecoveries, tooMany, deepestMessage, deepestProcess, storeLength, majority}
 use Rattle.rules.specs.Tally.{holds, joined, within, bitOf}
-use Rattle.rules.specs.Records.{Stored, stored, processAt, depthAt, Sized, forgetting, blank}
+use Rattle.rules.specs.Layout.{processAt, depthAt, Sized, forgetting}
+use Rattle.rules.specs.Records.{Stored, stored, blank}
 use Rattle.rules.specs.Store.{slot, kindE, kindS, kindF, proposerOf, sentIn}
 use Rattle.rules.specs.Answers.{Said}
-use Rattle.rules.specs.Steps.{takerOf, delivers, isCut, entryIn}
-use Rattle.rules.specs.Idle.{at as inPhase, idle}
+use Rattle.rules.specs.Kinds.{takerOf, delivers, isCut, entryIn}
+use Rattle.rules.specs.Idle.{inPhase, idle}
 use Rattle.rules.specs.Refusals.{strange, late, isRecover, down, refusal}
 use Rattle.rules.specs.Step.{stepped, Ready}
 use Rattle.rules.specs.Run.{State, startState, next, after, answers, Handed, handedFrom}

@@ -8,7 +8,8 @@ use Rattle.rules.specs.declared.process.Process.{Process}
 use Rattle.rules.specs.declared.process.Message.{Message}
 use Rattle.rules.specs.declared.process.Message.the-variants.{E}
 use Rattle.rules.specs.Limits.{storeLength}
-use Rattle.rules.specs.Records.{processWith, withProcess, blankGroup}
+use Rattle.rules.specs.Layout.{withProcess, blankGroup}
+use Rattle.rules.specs.Records.{processWith}
 use Rattle.rules.specs.Store.{cleared, handOver}
 use Rattle.rules.specs.Answers.{Outcome, outcome, refused, saysApplied}
 use Rattle.rules.specs.Depths.{dated}

@@ -9,11 +9,11 @@ use Rattle.rules.specs.declared.process.Process.{Process}
 use Rattle.rules.specs.declared.process.Next.{Next}
 use Rattle.rules.specs.declared.step.Step.{Step}
 use Rattle.rules.specs.Limits.{storeLength}
-use Rattle.rules.specs.Records.{processAt, withProcess, withDepth}
+use Rattle.rules.specs.Layout.{processAt, withProcess, withDepth}
 use Rattle.rules.specs.Store.{handOver, turned}
 use Rattle.rules.specs.Answers.{Outcome, outcome, refused, saysApplied, saysIdle}
 use Rattle.rules.specs.Events.{onCrash, cutIf}
-use Rattle.rules.specs.Steps.{takerOf, isCut, eventOf}
+use Rattle.rules.specs.Kinds.{takerOf, isCut, eventOf}
 use Rattle.rules.specs.Idle.{idle}
 use Rattle.rules.specs.Depths.{depthAfter, datedBoth}
 use Rattle.rules.specs.Refusals.{damaged, refusal}

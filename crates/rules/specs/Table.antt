@@ -10,7 +10,7 @@ use Rattle.rules.specs.declared.process.Process.{Process}
 use Rattle.rules.specs.declared.step.Step.{Step}
 use Rattle.rules.specs.declared.step.Step.the-variants.{DeliverE, DeliverS, DeliverF, DeliverDecision, Suspect, Pause, Crash, Recover}
 use Rattle.rules.specs.Limits.{storeLength}
-use Rattle.rules.specs.Records.{processAt}
+use Rattle.rules.specs.Layout.{processAt}
 use Rattle.rules.specs.Store.{placeOf, entryFor}
 use Rattle.rules.specs.Answers.{Said, saysApplied, saysIdle, saysRefused}
 use Rattle.rules.specs.Step.{stepped}

@@ -5,6 +5,7 @@ ghost use mathlib.Core.Bool.{_||_};
 ghost use Prim.Native.Nat.{ℕ, _≤_};
 ghost use lib.Dec.{eqb};
 ghost use Rattle.rules.specs.Limits as limits;
+ghost use Rattle.rules.specs.Layout as layout;
 ghost use Rattle.rules.specs.Records as records;
 ghost use Rattle.rules.specs.Refusals as refusals;
 use crate::process::Process;
@@ -44,7 +45,7 @@ pub(crate) fn take_out(
     i: u8,
 ) -> Process
     requires { ⌜ (1 ≤ i) × (i ≤ limits.greatestSize) ⌝ }
-    ensures { λ r. ⌜ ((n : ℕ) → r ≡ records.processAt (records.groupOf n (now (words .entry)) (now (halves .entry)) (now (bytes .entry)) (now (flags .entry))) i) ⌝ }
+    ensures { λ r. ⌜ ((n : ℕ) → r ≡ layout.processAt (layout.groupOf n (now (words .entry)) (now (halves .entry)) (now (bytes .entry)) (now (flags .entry))) i) ⌝ }
 {
     let at = (i - 1) as usize;
     let second = Group::SECOND + at;
@@ -75,7 +76,7 @@ pub(crate) fn put_back(
     p: Process,
 )
     requires { ⌜ (1 ≤ i) × (i ≤ limits.greatestSize) ⌝ }
-    ensures { λ r. ⌜ ((n : ℕ) → records.groupOf n (now (words .exit)) (now (halves .exit)) (now (bytes .exit)) (now (flags .exit)) ≡ records.withProcess (records.groupOf n (now (words .entry)) (now (halves .entry)) (now (bytes .entry)) (now (flags .entry))) i p) ⌝ }
+    ensures { λ r. ⌜ ((n : ℕ) → layout.groupOf n (now (words .exit)) (now (halves .exit)) (now (bytes .exit)) (now (flags .exit)) ≡ layout.withProcess (layout.groupOf n (now (words .entry)) (now (halves .entry)) (now (bytes .entry)) (now (flags .entry))) i p) ⌝ }
 {
     let at = (i - 1) as usize;
     let second = Group::SECOND + at;
@@ -97,7 +98,7 @@ pub(crate) fn put_back(
 // The depth of process i.
 pub(crate) fn depth_of(halves: &Halves, i: u8) -> u16
     requires { ⌜ (1 ≤ i) × (i ≤ limits.greatestSize) ⌝ }
-    ensures { λ r. ⌜ r ≡ records.depthIn (now (halves .entry)) i ⌝ }
+    ensures { λ r. ⌜ r ≡ layout.depthIn (now (halves .entry)) i ⌝ }
 {
     halves[Group::THIRD + (i - 1) as usize]
 }
@@ -105,7 +106,7 @@ pub(crate) fn depth_of(halves: &Halves, i: u8) -> u16
 // Whether process i has decided.
 pub(crate) fn decided_of(flags: &Flags, i: u8) -> bool
     requires { ⌜ (1 ≤ i) × (i ≤ limits.greatestSize) ⌝ }
-    ensures { λ r. ⌜ r ≡ records.decidedIn (now (flags .entry)) i ⌝ }
+    ensures { λ r. ⌜ r ≡ layout.decidedIn (now (flags .entry)) i ⌝ }
 {
     flags[Group::SECOND + (i - 1) as usize]
 }
@@ -121,7 +122,7 @@ pub(crate) fn put_deep(
     depth: u16,
 )
     requires { ⌜ (1 ≤ i) × (i ≤ limits.greatestSize) ⌝ }
-    ensures { λ r. ⌜ ((n : ℕ) → records.groupOf n (now (words .exit)) (now (halves .exit)) (now (bytes .exit)) (now (flags .exit)) ≡ records.withDepth (records.withProcess (records.groupOf n (now (words .entry)) (now (halves .entry)) (now (bytes .entry)) (now (flags .entry))) i p) i depth) ⌝ }
+    ensures { λ r. ⌜ ((n : ℕ) → layout.groupOf n (now (words .exit)) (now (halves .exit)) (now (bytes .exit)) (now (flags .exit)) ≡ layout.withDepth (layout.withProcess (layout.groupOf n (now (words .entry)) (now (halves .entry)) (now (bytes .entry)) (now (flags .entry))) i p) i depth) ⌝ }
 {
     put_back(words, halves, bytes, flags, i, p);
     halves[Group::THIRD + (i - 1) as usize] = depth;
@@ -155,7 +156,7 @@ pub(crate) fn whole(n: u8, p: Process) -> bool
 
 // Whether a group is damaged: its size is not 1 to 16, or a record of its processes has damage or too great a depth.
 pub(crate) fn damaged(n: u8, words: &Words, halves: &Halves, bytes: &Bytes, flags: &Flags) -> bool
-    ensures { λ r. ⌜ r ≡ refusals.damaged (records.groupOf n (now (words .entry)) (now (halves .entry)) (now (bytes .entry)) (now (flags .entry))) ⌝ }
+    ensures { λ r. ⌜ r ≡ refusals.damaged (layout.groupOf n (now (words .entry)) (now (halves .entry)) (now (bytes .entry)) (now (flags .entry))) ⌝ }
 {
     if n == 0 {
         return true;
@@ -208,7 +209,7 @@ impl Group {
 
     // A group of size 0.
     pub(crate) fn none() -> Group
-        ensures { λ r. ⌜ r ≡ records.blankGroup 0 ⌝ }
+        ensures { λ r. ⌜ r ≡ layout.blankGroup 0 ⌝ }
     {
         Group {
             n: 0,

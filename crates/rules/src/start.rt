@@ -6,7 +6,7 @@ ghost use mathlib.Core.Bool.{not};
 ghost use lib.Dec.{ltb};
 ghost use lib.ListN.{length};
 ghost use Rattle.rules.specs.Limits as limits;
-ghost use Rattle.rules.specs.Records as records;
+ghost use Rattle.rules.specs.Layout as layout;
 ghost use Rattle.rules.specs.Answers as answers;
 ghost use Rattle.rules.specs.Refusals as refusals;
 ghost use Rattle.rules.specs.Start as starts;
@@ -49,8 +49,8 @@ pub(crate) fn fill(
     bytes: &mut Bytes,
     flags: &mut Flags,
 )
-    requires { ⌜ (length (now values) ≤ limits.greatestSize) × (records.groupOf (length (now values)) (now words) (now halves) (now bytes) (now flags) ≡ records.blankGroup (length (now values))) ⌝ }
-    ensures { λ r. ⌜ records.groupOf (length (now (values .entry))) (now (words .exit)) (now (halves .exit)) (now (bytes .exit)) (now (flags .exit)) ≡ starts.startedTo (now (values .entry)) (length (now (values .entry))) ⌝ }
+    requires { ⌜ (length (now values) ≤ limits.greatestSize) × (layout.groupOf (length (now values)) (now words) (now halves) (now bytes) (now flags) ≡ layout.blankGroup (length (now values))) ⌝ }
+    ensures { λ r. ⌜ layout.groupOf (length (now (values .entry))) (now (words .exit)) (now (halves .exit)) (now (bytes .exit)) (now (flags .exit)) ≡ starts.startedTo (now (values .entry)) (length (now (values .entry))) ⌝ }
 {
     let mut k: usize = 0;
     while k < values.len() {

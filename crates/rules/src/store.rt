@@ -7,7 +7,7 @@ ghost use lib.ListN.{length, getD, set};
 ghost use Rattle.rules.specs.Limits as limits;
 ghost use Rattle.rules.specs.Store as stores;
 ghost use Rattle.rules.specs.Depths as dates;
-ghost use Rattle.rules.specs.Parts as parts;
+ghost use Rattle.rules.specs.Private as parts;
 ghost use Rattle.rules.specs.Tally.{bitOf};
 use crate::group::Group;
 use crate::process::Message;

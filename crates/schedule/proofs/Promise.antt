@@ -6,7 +6,7 @@ use Prim.Native.Nat.{ℕ, zero, suc, _+_, _≤_, _<_, _^_}
 use lib.ListN.{length, getD}
 use Rattle.rules.specs.Limits.{storeLength}
 use Rattle.rules.specs.Tally.{bitOf}
-use Rattle.rules.specs.Records.{processAt, depthAt}
+use Rattle.rules.specs.Layout.{processAt, depthAt}
 use Rattle.rules.specs.Store.{sentIn}
 use Rattle.rules.specs.Answers.{Said}
 use Rattle.rules.specs.Depths.{depthAfter}

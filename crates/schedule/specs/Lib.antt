@@ -14,4 +14,4 @@ pub mod Run
 -- what holds of every sound file
 pub mod Promise
 -- for the contracts of private functions alone
-pub mod Parts
+pub mod Private

@@ -5,7 +5,7 @@ use Prim.Native.Nat.{ℕ, _+_, _≤_}
 use lib.ListN.{length}
 use Rattle.rules.specs.Limits.{storeLength}
 use Rattle.rules.specs.Tally.{count}
-use Rattle.rules.specs.Records.{processAt, depthAt}
+use Rattle.rules.specs.Layout.{processAt, depthAt}
 use Rattle.rules.specs.Store.{sentIn}
 use Rattle.rules.specs.Run.{startState}
 use Rattle.rules.specs.Safety.{Of, Holds, FirstValue, recoversOf, Longest}

@@ -5,7 +5,7 @@ use Prim.Native.Nat.{ℕ}
 use Rattle.rules.specs.declared.step.Step.{Step}
 use Rattle.rules.specs.Run.{State, startState, after, answers}
 use Rattle.schedule.specs.Schedule.{Schedule, Reading, faulty, sound, readFile, noFault}
-use Rattle.rules.specs.Records.{blankGroup}
+use Rattle.rules.specs.Layout.{blankGroup}
 use Rattle.schedule.specs.declared.fault.Fault.{Fault}
 use Rattle.schedule.specs.Counts.{none, countedAll}
 use Rattle.schedule.specs.declared.counts.Counts.{Counts}

@@ -2,7 +2,7 @@
 ghost use mathlib.Core.Path.{_≡_};
 ghost use Rattle.rules.specs.Answers.{said};
 ghost use Rattle.schedule.specs.Counts as counts;
-ghost use Rattle.schedule.specs.Parts.{Room};
+ghost use Rattle.schedule.specs.Private.{Room};
 use rules::step::Answer;
 
 // How many steps a section has; how many of them were applied, idle and refused; how many entries turned from 0 to sent; how many processes decided.

@@ -5,7 +5,7 @@ ghost use Prim.Native.Nat.{_≤_, _<_};
 ghost use Rattle.rules.specs.Limits.{greatestSize};
 ghost use Rattle.schedule.specs.Limits as limits;
 ghost use Rattle.schedule.specs.Schedule.{faultAt};
-ghost use Rattle.schedule.specs.Parts.{LastLf, ValuesAre, StepsAre, FormIs};
+ghost use Rattle.schedule.specs.Private.{LastLf, ValuesAre, StepsAre, FormIs};
 use crate::fault::Fault;
 use crate::header::header_at;
 use crate::lf::last_end;

@@ -2,7 +2,7 @@
 // Each function answers what the definition of a header says of the bytes; the public one takes any place of any bytes.
 ghost use mathlib.Core.Path.{_≡_};
 ghost use Rattle.schedule.specs.Header.{wordAt, aloneAt, headerAt};
-ghost use Rattle.schedule.specs.Parts.{Ahead, LastLf};
+ghost use Rattle.schedule.specs.Private.{Ahead, LastLf};
 use crate::lf::last_end;
 use crate::line::spaced_at;
 use crate::number::closed;

@@ -1,6 +1,6 @@
 // LF in the bytes of a file: whether one stands ahead of a place, and where the last one stands.
 // Every line ends with LF, so that where one is ahead, the reader tests no byte for the file's end.
-ghost use Rattle.schedule.specs.Parts.{AheadIs, LastLf};
+ghost use Rattle.schedule.specs.Private.{AheadIs, LastLf};
 
 // Whether an LF stands at a place or ahead of it.
 pub(crate) fn lf_ahead(s: &[u8], at: usize) -> bool

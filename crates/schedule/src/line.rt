@@ -3,7 +3,7 @@
 ghost use mathlib.Core.Path.{_≡_};
 ghost use Rattle.text.specs.Number.{numberAt};
 ghost use Rattle.schedule.specs.Line.{numbersAfter, mayCut, stepOf, spacedAt, nextNumber, endAt, lineAt, asLine};
-ghost use Rattle.schedule.specs.Parts.{Ahead, placeAfter, placeOfEnd, KnownNumber, KnownNext, KnownLine, valueRead, lineRead};
+ghost use Rattle.schedule.specs.Private.{Ahead, placeAfter, placeOfEnd, KnownNumber, KnownNext, KnownLine, valueRead, lineRead};
 use crate::lf::lf_ahead;
 use crate::number::decimal_at;
 use rules::step::Step;

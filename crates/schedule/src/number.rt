@@ -5,7 +5,7 @@ ghost use Prim.Native.Nat.{_≤_};
 ghost use lib.ListN.{drop};
 ghost use Rattle.text.specs.Number.{most, numberAt, scan};
 ghost use Rattle.schedule.specs.Line as lines;
-ghost use Rattle.schedule.specs.Parts.{Ahead};
+ghost use Rattle.schedule.specs.Private.{Ahead};
 use text::number::Number;
 use text::number::is_digit;
 

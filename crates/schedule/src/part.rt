@@ -1,7 +1,7 @@
 // A part of the file with steps: a header, its count held to a limit, and as many step lines.
 // What is answered is where the steps stand, or the part's first fault.
 ghost use Prim.Native.Nat.{_+_, _<_, _^_};
-ghost use Rattle.schedule.specs.Parts.{LastLf, PartIs};
+ghost use Rattle.schedule.specs.Private.{LastLf, PartIs};
 use crate::fault::Fault;
 use crate::header::header_at;
 use crate::section::Lines;

@@ -1,7 +1,7 @@
 // The reader: the lent bytes of the file and a place in them. Each function over it is thin: the work is on a slice and a number, in `line`.
 ghost use mathlib.Core.Path.{_≡_};
 ghost use Rattle.schedule.specs.Line.{lineAt};
-ghost use Rattle.schedule.specs.Parts.{Ahead, placeAfter, KnownLine, lineRead};
+ghost use Rattle.schedule.specs.Private.{Ahead, placeAfter, KnownLine, lineRead};
 use crate::line;
 use crate::line::Taken;
 

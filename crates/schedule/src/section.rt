@@ -3,7 +3,7 @@
 ghost use mathlib.Core.Path.{_≡_};
 ghost use Rattle.schedule.specs.Line.{lineAt};
 ghost use Rattle.schedule.specs.Lines.{linesAt};
-ghost use Rattle.schedule.specs.Parts.{LastLf, linesEnd};
+ghost use Rattle.schedule.specs.Private.{LastLf, linesEnd};
 use crate::reader;
 
 // The place after the last of some lines, or which of them, counted from 0, is the first faulty one.

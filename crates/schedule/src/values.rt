@@ -5,7 +5,7 @@ ghost use Prim.Native.Nat.{_≤_};
 ghost use Rattle.rules.specs.Limits.{greatestSize};
 ghost use Rattle.schedule.specs.Values.{valueAt};
 ghost use Rattle.schedule.specs.Lines.{linesAt};
-ghost use Rattle.schedule.specs.Parts.{LastLf, numberOf, valuesRead};
+ghost use Rattle.schedule.specs.Private.{LastLf, numberOf, valuesRead};
 use crate::number::closed;
 use crate::number::decimal_at;
 use rules::group::Group;

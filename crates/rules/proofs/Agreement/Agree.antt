@@ -9,7 +9,7 @@ use Rattle.rules.specs.declared.group.Group.{Group}
 use Rattle.rules.specs.declared.process.Process.{Process}
 use Rattle.rules.specs.declared.step.Step.{Step}
 use Rattle.rules.specs.Limits.{storeLength}
-use Rattle.rules.specs.Records.{processAt}
+use Rattle.rules.specs.Layout.{processAt}
 use Rattle.rules.specs.Store.{kindE, kindF, messageRound, cleared}
 use Rattle.rules.specs.Start.{fresh, startedTo, firstMessage, opened}
 use Rattle.rules.specs.Safety.{Of, Holds}

@@ -20,10 +20,10 @@ use Rattle.rules.proofs.Bare.Run.{State, next}
 use Rattle.rules.proofs.Bare.Step.{refusal, course, settled, stepped}
 use Rattle.rules.specs.Limits.{greatestSize, lastRound, among}
 use Rattle.rules.specs.Tally.{holds}
-use Rattle.rules.specs.Records.{processAt, withProcess}
+use Rattle.rules.specs.Layout.{processAt, withProcess}
 use Rattle.rules.specs.Store.{slot, decisionSlot, kindE, kindF}
-use Rattle.rules.specs.Steps.{takerOf, numbersOf, roundOf, delivers, slotOf, isCut, entryIn, eventOf}
-use Rattle.rules.specs.Idle.{pastFor, at, idleE, idleS, idleF, idle}
+use Rattle.rules.specs.Kinds.{takerOf, numbersOf, roundOf, delivers, slotOf, isCut, entryIn, eventOf}
+use Rattle.rules.specs.Idle.{pastFor, inPhase, idleE, idleS, idleF, idle}
 use Rattle.rules.proofs.Laws.Bool.{or-left, or-right}
 use Rattle.rules.proofs.Laws.Group.{process-put, process-kept}
 use Rattle.rules.proofs.Laws.Sound.{second-among, Whole, sound-facts, Passed, refusal-passed, taker-in, Taking, Fine, course-fine}
@@ -63,18 +63,18 @@ not-two k (inr e) f = absurd (eqb-false k 2 f e)
 -- so of an E, and of an F
 below-E : (p : Process) (j r : ℕ) → idleE p j r ≡ false → p .round ≤ r
 unfolding idleE
-below-E p j r e = not-below p r (at p r 2 || (at p r 1 && holds (p .estimates) j)) e
+below-E p j r e = not-below p r (inPhase p r 2 || (inPhase p r 1 && holds (p .estimates) j)) e
 
 below-F : (p : Process) (j r : ℕ) → idleF p j r ≡ false → p .round ≤ r
 unfolding idleF
-below-F p j r e = not-below p r (at p r 2 && holds (p .estimates) j) e
+below-F p j r e = not-below p r (inPhase p r 2 && holds (p .estimates) j) e
 
 -- an E of the receiver's round finds it in phase 1
 first-phase-E : (p : Process) (j r : ℕ) → (p .phase ≡ 1) ⊎ (p .phase ≡ 2) → idleE p j r ≡ false → p .round ≡ r → p .phase ≡ 1
-unfolding idleE at
+unfolding idleE inPhase
 first-phase-E p j r f e z =
-    let b = at p r 1 && holds (p .estimates) j in
-    let both : (eqb r (p .round) && eqb (p .phase) 2) ≡ false = or-left (at p r 2) b (or-right (pastFor p r) (at p r 2 || b) e) in
+    let b = inPhase p r 1 && holds (p .estimates) j in
+    let both : (eqb r (p .round) && eqb (p .phase) 2) ≡ false = or-left (inPhase p r 2) b (or-right (pastFor p r) (inPhase p r 2 || b) e) in
     let same : eqb r (p .round) ≡ true = eq-eqb r (p .round) (sym z) in
     not-two (p .phase) f (ap (λ (t : Bool). t && eqb (p .phase) 2) (sym same) ∙ both)
 

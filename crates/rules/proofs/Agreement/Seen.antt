@@ -17,7 +17,8 @@ use Rattle.rules.specs.declared.process.Message.{Message}
 use Rattle.rules.specs.declared.process.Message.the-variants.{Nothing, E, S, F, Decision}
 use Rattle.rules.specs.Limits.{greatestSize, lastRound, storeLength, majority, among}
 use Rattle.rules.specs.Tally.{holds, joined, meets, count}
-use Rattle.rules.specs.Records.{processAt, withProcess, Sized, recordIf, recordOf}
+use Rattle.rules.specs.Layout.{processAt, withProcess, Sized}
+use Rattle.rules.specs.Records.{recordIf, recordOf}
 use Rattle.rules.specs.Store.{slot, decisionSlot, kindE, kindF, entryOf, placeOf, messageRound, entryFor, handOver}
 use Rattle.rules.specs.Step.{handOvers}
 use Rattle.rules.proofs.Laws.Bool.{and-left, and-right, and-both}

@@ -6,7 +6,7 @@ use Rattle.rules.specs.declared.group.Group.{Group}
 use Rattle.rules.specs.declared.step.Step.{Step}
 use Rattle.rules.specs.Answers.{Said}
 use Rattle.rules.specs.Start.{firstMessage}
-use Rattle.rules.specs.Records.{forgetting}
+use Rattle.rules.specs.Layout.{forgetting}
 use Rattle.rules.specs.Run.{Handed, handed, handedByCourse, State as Whole}
 use Rattle.rules.proofs.Bare.Step.{Outcome, started, course, stepped}
 

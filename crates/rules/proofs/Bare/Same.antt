@@ -13,16 +13,16 @@ use Rattle.rules.specs.declared.group.Group.{Group}
 use Rattle.rules.specs.declared.process.Process.{Process}
 use Rattle.rules.specs.declared.step.Step.{Step}
 use Rattle.rules.specs.Limits.{greatestSize, storeLength, deepestMessage, among}
-use Rattle.rules.specs.Records.{processAt, withProcess, Sized, forgetting}
+use Rattle.rules.specs.Layout.{processAt, withProcess, Sized, forgetting}
 use Rattle.rules.specs.Answers.{saysApplied}
-use Rattle.rules.specs.Steps.{takerOf, numbersOf, delivers, slotOf, isCut, eventOf}
+use Rattle.rules.specs.Kinds.{takerOf, numbersOf, delivers, slotOf, isCut, eventOf}
 use Rattle.rules.specs.Idle.{idle}
 use Rattle.rules.specs.Depths.{deliveredDepth, depthAfter}
 use Rattle.rules.specs.Refusals.{row, every, short, strange, late, down, unsent, misnamed, impossible, recoversPast, entersPast, damaged, tooDeep, refusal}
 use Rattle.rules.specs.Step.{Course, Idles, Refuses, Takes, idles, orIdle, unlessRefused, sentBy, decidesNow, course, settled, stepped, Ready}
 use Rattle.rules.specs.Run.{State, next}
 use Rattle.rules.specs.Safety.{WithinLimits}
-use Rattle.rules.specs.Parts.{numberRows}
+use Rattle.rules.specs.Private.{numberRows}
 use Rattle.rules.proofs.Bare.Step as base
 use Rattle.rules.proofs.Bare.Run.{forgotten}
 use Rattle.rules.proofs.Bare.Run as run

@@ -12,9 +12,10 @@ use Rattle.rules.specs.declared.step.Step.{Step}
 use Rattle.rules.specs.declared.step.Step.the-variants.{DeliverE, DeliverS, DeliverF, DeliverDecision, Suspect, Pause, Crash, Recover}
 use Rattle.rules.specs.Limits.{greatestSize, values, mostRecoveries, storeLength}
 use Rattle.rules.specs.Tally.{joined, bitOf}
-use Rattle.rules.specs.Records.{stored, processAt, blank}
+use Rattle.rules.specs.Layout.{processAt}
+use Rattle.rules.specs.Records.{stored, blank}
 use Rattle.rules.specs.Store.{kindE, kindS, kindF, proposerOf, sentIn}
-use Rattle.rules.specs.Steps.{takerOf}
+use Rattle.rules.specs.Kinds.{takerOf}
 use Rattle.rules.specs.Refusals.{isRecover}
 use Rattle.rules.specs.Safety.{Of, Holds, FirstValue, cut, back, Among, Comes, sumSent, Heard, Majority, estimatesWith}
 use Rattle.rules.proofs.Bare.Step.{damaged, refusal, stepped}

@@ -6,7 +6,7 @@ use lib.ListN.{length, getD}
 use Rattle.rules.specs.declared.group.Group.{Group}
 use Rattle.rules.specs.declared.step.Step.{Step}
 use Rattle.rules.specs.Limits.{greatestSize, among}
-use Rattle.rules.specs.Records.{processAt, withProcess, blankGroup}
+use Rattle.rules.specs.Layout.{processAt, withProcess, blankGroup}
 use Rattle.rules.specs.Answers.{Said, saysApplied, saysIdle, saysRefused}
 use Rattle.rules.specs.Refusals.{row, allOf, short, miscounted, whole, strange, late, down, unsent, misnamed, impossible, recoversPast, entersPast}
 use Rattle.rules.specs.Start.{startedTo, opened}

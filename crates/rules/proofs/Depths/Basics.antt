@@ -15,7 +15,7 @@ use Rattle.rules.specs.declared.process.Process.{Process}
 use Rattle.rules.specs.declared.process.Message.{Message}
 use Rattle.rules.specs.declared.process.Next.{Next}
 use Rattle.rules.specs.declared.step.Step.{Step}
-use Rattle.rules.specs.Records.{forgetting}
+use Rattle.rules.specs.Layout.{forgetting}
 use Rattle.rules.specs.Depths.{deliveredDepth, raises, raised, depthAfter, dated, datedBoth}
 use Rattle.rules.specs.Refusals.{row, every, short, miscounted, strange, late, damaged, tooDeep, refusal, startRefusal}
 use Rattle.rules.specs.Answers.{Said, saysApplied}
@@ -26,12 +26,12 @@ use Rattle.rules.specs.Safety.{Begins, at, processDepth, messageDepth, s
 use Rattle.rules.proofs.Bare.Run.{State as Bare, forgotten}
 use Rattle.rules.proofs.Bare.Step.{refusalBy, startRefusalBy, begun}
 use Rattle.rules.specs.Limits.{greatestSize, storeLength, deepestMessage, among}
-use Rattle.rules.specs.Records.{processAt, withProcess, depthAt, withDepth, Sized}
+use Rattle.rules.specs.Layout.{processAt, withProcess, depthAt, withDepth, Sized}
 use Rattle.rules.specs.Store.{placeOf, handOver, turned, cleared, sentIn}
-use Rattle.rules.specs.Steps.{takerOf, numbersOf, delivers, slotOf, isCut, eventOf}
+use Rattle.rules.specs.Kinds.{takerOf, numbersOf, delivers, slotOf, isCut, eventOf}
 use Rattle.rules.specs.Idle.{idle}
 use Rattle.rules.proofs.Bare.Step as base
-use Rattle.rules.specs.Parts.{numberRows}
+use Rattle.rules.specs.Private.{numberRows}
 use Rattle.rules.proofs.Bare.Run as run
 use Rattle.rules.proofs.Bare.Statements as bare
 use Rattle.rules.proofs.Bare.Same.{limits-fine}

@@ -21,9 +21,9 @@ use Rattle.rules.specs.Run.{State, startState, next, after}
 use Rattle.rules.specs.Safety.{Of, Begins, at, processDepth, messageDepth, says, senderOf, Link, Chain, Ends, DepthIsLongest}
 use Rattle.rules.proofs.Bare.Step.{begun}
 use Rattle.rules.specs.Limits.{greatestSize, storeLength}
-use Rattle.rules.specs.Records.{Sized}
+use Rattle.rules.specs.Layout.{Sized}
 use Rattle.rules.specs.Store.{sentIn}
-use Rattle.rules.specs.Steps.{takerOf, delivers, slotOf, entryIn}
+use Rattle.rules.specs.Kinds.{takerOf, delivers, slotOf, entryIn}
 use Rattle.rules.specs.Idle.{idleE, idleS, idleF, idle}
 use Rattle.rules.specs.Safety.Chain.{one, more}
 use Rattle.rules.proofs.Laws.Store.{opened-sent}

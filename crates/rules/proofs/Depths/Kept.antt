@@ -11,8 +11,8 @@ use Rattle.rules.specs.declared.group.Group.{Group}
 use Rattle.rules.specs.declared.process.Process.{Process}
 use Rattle.rules.specs.declared.step.Step.{Step}
 use Rattle.rules.specs.declared.step.Step.the-variants.{DeliverE, DeliverS, DeliverF, DeliverDecision, Suspect, Pause, Crash, Recover}
-use Rattle.rules.specs.Records.{processAt}
-use Rattle.rules.specs.Steps.{takerOf, numbersOf, roundOf, delivers, slotOf, isCut, entryIn, eventOf}
+use Rattle.rules.specs.Layout.{processAt}
+use Rattle.rules.specs.Kinds.{takerOf, numbersOf, roundOf, delivers, slotOf, isCut, entryIn, eventOf}
 use Rattle.rules.specs.Idle.{idle}
 use Rattle.rules.specs.Depths.{deliveredDepth, depthAfter}
 use Rattle.rules.specs.Refusals.{strange, late, isRecover, down, unsent, misnamed, impossible, recoversPast, entersPast, tooDeep, refusal}

@@ -21,10 +21,10 @@ use Rattle.rules.specs.Step.{Course, Idles, Refuses, Takes, idles, orIdl
 use Rattle.rules.specs.Run.{State, next, after, Handed, handed}
 use Rattle.rules.specs.Safety.{at, processDepth, messageDepth, says, Delivers, SentStays, senderOf, Link}
 use Rattle.rules.specs.Limits.{greatestSize, lastRound, storeLength}
-use Rattle.rules.specs.Records.{processAt, withProcess, depthAt, withDepth, forgetting}
+use Rattle.rules.specs.Layout.{processAt, withProcess, depthAt, withDepth, forgetting}
 use Rattle.rules.specs.Store.{placeOf, messageRound, entryFor, handOver}
 use Rattle.rules.specs.Events.{onCrash, cutIf}
-use Rattle.rules.specs.Steps.{takerOf, delivers, slotOf, isCut, eventOf}
+use Rattle.rules.specs.Kinds.{takerOf, delivers, slotOf, isCut, eventOf}
 use Rattle.rules.specs.Idle.{idle}
 use Rattle.rules.proofs.Laws.Store.{IsMessage, place-lt, own, other}
 use Rattle.rules.proofs.Laws.Group.{sized-with}

@@ -18,7 +18,7 @@ use Rattle.rules.specs.declared.process.Message.the-variants.{Nothing, E
 use Rattle.rules.specs.declared.process.Next.{Next}
 use Rattle.rules.specs.declared.step.Step.{Step}
 use Rattle.rules.specs.declared.step.Step.the-variants.{DeliverE, DeliverS, DeliverF, DeliverDecision, Suspect, Pause, Crash, Recover}
-use Rattle.rules.specs.Records.{forgetting}
+use Rattle.rules.specs.Layout.{forgetting}
 use Rattle.rules.specs.Depths.{depthAfter}
 use Rattle.rules.specs.Refusals.{every, strange, late, unsent, refusal}
 use Rattle.rules.specs.Start.{fresh}
@@ -29,10 +29,10 @@ use Rattle.rules.proofs.Bare.Run.{State as Bare, forgotten}
 use Rattle.rules.proofs.Bare.Step.{begun}
 use Rattle.rules.specs.Limits.{greatestSize, lastRound, storeLength, coordinator, among}
 use Rattle.rules.specs.Tally.{bitOf, count, holds, joined, meets}
-use Rattle.rules.specs.Records.{processAt, withProcess, withDepth}
+use Rattle.rules.specs.Layout.{processAt, withProcess, withDepth}
 use Rattle.rules.specs.Store.{slot, kindE, kindS, kindF, proposerOf, valueOf, placeOf, handOver, sentIn}
 use Rattle.rules.specs.Events.{takes, joinsEstimates, decides, marks, paused, crashed, recovered, quiet, changed, jumpsIf, jumps, relaysIf, relays, decidesIf, decidesAt, onE, onDecision, onSuspect, onPause, onCrash, onRecover, cutIf}
-use Rattle.rules.specs.Steps.{takerOf, numbersOf, roundOf, delivers, slotOf, isCut, entryIn, eventOf}
+use Rattle.rules.specs.Kinds.{takerOf, numbersOf, roundOf, delivers, slotOf, isCut, entryIn, eventOf}
 use Rattle.rules.specs.Idle.{pastFor, idleE, idleS, idleF, idle}
 use Rattle.rules.proofs.Bare.Step as base
 use Rattle.rules.proofs.Bare.Run as run

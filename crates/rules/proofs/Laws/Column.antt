@@ -9,8 +9,9 @@ use lib.ListN.{length, getD, set, take, replicate, length-set, length-append, le
 use lib.Seq.{getD-set-same, getD-set-other, getD-append-add}
 use Rattle.rules.specs.declared.group.Group.{Group}
 use Rattle.rules.specs.declared.process.Process.{Process}
-use Rattle.rules.specs.Records.{processWith, groupOf, put₃, put₄, processAt, withProcess, depthIn, depthAt, withDepth, Sized, blankGroup}
-use Rattle.rules.specs.Records.{forgetting}
+use Rattle.rules.specs.Layout.{groupOf, put₃, put₄, processAt, withProcess, depthIn, depthAt, withDepth, Sized, blankGroup}
+use Rattle.rules.specs.Records.{processWith}
+use Rattle.rules.specs.Layout.{forgetting}
 use Rattle.rules.specs.Start.{startedTo, fresh}
 use Rattle.rules.proofs.Laws.Group.{sized-started}
 

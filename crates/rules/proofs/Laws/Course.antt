@@ -17,7 +17,7 @@ use Rattle.rules.specs.declared.step.Step.{Step}
 use Rattle.rules.specs.declared.step.Step.the-variants.{DeliverE, DeliverS, DeliverF, DeliverDecision, Suspect, Pause, Crash, Recover}
 use Rattle.rules.specs.declared.course.Address.the-variants.{Misses, At}
 use Rattle.rules.specs.Limits.{greatestSize, lastRound, tooMany, storeLength, among}
-use Rattle.rules.specs.Records.{processAt, withProcess, withDepth}
+use Rattle.rules.specs.Layout.{processAt, withProcess, withDepth}
 use Rattle.rules.specs.Store.{proposerOf, placeOf, handOver, turned}
 use Rattle.rules.specs.Depths.{deliveredDepth, depthAfter, datedBoth}
 use Rattle.rules.specs.Refusals.{row, every, short, strange, late, isRecover, down, unsent, misnamed, maySuspect, impossible, recoversPast, entersPast, damaged, tooDeep}
@@ -26,9 +26,9 @@ use Rattle.rules.specs.Answers.{saysApplied, saysIdle, saysRefused, outc
 use Rattle.rules.specs.Step.{Idles, Refuses, Takes, orIdle, unlessRefused, handOvers, sentBy, decidesNow, course, settled, stepped, Ready}
 use Rattle.rules.proofs.Bare.Step.{refusalBy}
 use Rattle.rules.specs.Events.{cutIf}
-use Rattle.rules.specs.Steps.{takerOf, numbersOf, roundOf, delivers, slotOf, isCut, entryIn, eventOf}
+use Rattle.rules.specs.Kinds.{takerOf, numbersOf, roundOf, delivers, slotOf, isCut, entryIn, eventOf}
 use Rattle.rules.specs.Idle.{idle}
-use Rattle.rules.specs.Parts.{numberRows, unlessMissed, addressOf, heldRows, unlessPast, orPast, orImpossible, orUp, lastCourse, unlessHeld, heldCourse, Numbered, Handable, HandsOverBoth}
+use Rattle.rules.specs.Private.{numberRows, unlessMissed, addressOf, heldRows, unlessPast, orPast, orImpossible, orUp, lastCourse, unlessHeld, heldCourse, Numbered, Handable, HandsOverBoth}
 use Rattle.rules.proofs.Laws.Row.{orElse, number-else, held-else, Delivered, delivered-zero, owned-zero, held-zero, among-in}
 use Rattle.rules.proofs.Laws.Step.{up-yes, up-many, up-no}
 use Rattle.rules.proofs.Laws.Sound.{sound-facts}

@@ -10,7 +10,8 @@ use lib.ListN.{length, getD, set, length-set, getD-replicate}
 use lib.Seq.{getD-set-same, getD-set-other}
 use Rattle.rules.specs.declared.group.Group.{Group}
 use Rattle.rules.specs.declared.process.Process.{Process}
-use Rattle.rules.specs.Records.{processAt, withProcess, Sized, put₂, put₃, put₄, blank, blankGroup}
+use Rattle.rules.specs.Layout.{processAt, withProcess, Sized, put₂, put₃, put₄, blankGroup}
+use Rattle.rules.specs.Records.{blank}
 use Rattle.rules.specs.Start.{startedTo, fresh}
 
 -- ---- a list in columns of 16

@@ -17,10 +17,10 @@ use Rattle.rules.specs.Depths.{datedIf, dated}
 use Rattle.rules.specs.Refusals.{allOf, short, whole, damaged, tooDeep, refusal}
 use Rattle.rules.specs.Step.{Course, Refuses, Takes, idles, orIdle, unlessRefused, course}
 use Rattle.rules.specs.Limits.{greatestSize, deepestProcess, among}
-use Rattle.rules.specs.Records.{processAt, depthAt}
+use Rattle.rules.specs.Layout.{processAt, depthAt}
 use Rattle.rules.specs.Store.{placeOf, turned}
 use Rattle.rules.specs.Tally.{bitOf}
-use Rattle.rules.specs.Steps.{takerOf, isCut, eventOf}
+use Rattle.rules.specs.Kinds.{takerOf, isCut, eventOf}
 use Rattle.rules.specs.Idle.{idle}
 use Rattle.rules.proofs.Bare.Step as base
 use Rattle.rules.proofs.Laws.Bool.{or-left, or-right}

@@ -8,9 +8,9 @@ use borrow.Author.Tests.{leb-true, le-leb, ltb-false, not-false}
 use Rattle.rules.specs.declared.step.Step.{Step}
 use Rattle.rules.specs.Limits.{lastRound, deepestMessage, among}
 use Rattle.rules.specs.Store.{proposerOf}
-use Rattle.rules.specs.Steps.{numbersOf}
+use Rattle.rules.specs.Kinds.{numbersOf}
 use Rattle.rules.specs.Refusals.{row, every, late}
-use Rattle.rules.specs.Parts.{numberRows, heldRows}
+use Rattle.rules.specs.Private.{numberRows, heldRows}
 use Rattle.rules.proofs.Laws.Bool.{and-left, and-right, and-both}
 
 -- ---- rows in a chain

@@ -23,10 +23,10 @@ use Rattle.rules.specs.Step.{Course, Idles, Refuses, Takes, idles, orIdl
 use Rattle.rules.proofs.Bare.Step.{Outcome, refused, damaged, refusalBy, refusal, startRefusalBy, startRefusal, course, settled, stepped, unlessRefusedStart, begun, started}
 use Rattle.rules.specs.Limits.{greatestSize, lastRound, storeLength, coordinator, among}
 use Rattle.rules.specs.Tally.{meets, within}
-use Rattle.rules.specs.Records.{processAt, withProcess, Sized, blankGroup}
+use Rattle.rules.specs.Layout.{processAt, withProcess, Sized, blankGroup}
 use Rattle.rules.specs.Store.{proposerOf, valueOf, messageRound, entryFor, handOver, sentIn}
 use Rattle.rules.specs.Events.{takes, enters, joinsEstimates, joinsSuspicions, decides, secondPhase, marks, paused, crashed, recovered, quiet, changed, jumpsIf, jumps, relaysIf, relays, decidesIf, decidesAt, goesToPhase2, goesToPhase2If, toPhase2, adoptsIf, adopts, opensIf, opens, entersNextIf, entersNextAt, onE, onS, onF, onDecision, onSuspect, onPause, onCrash, onRecover, cutIf}
-use Rattle.rules.specs.Steps.{takerOf, numbersOf, roundOf, delivers, isCut, entryIn, eventOf}
+use Rattle.rules.specs.Kinds.{takerOf, numbersOf, roundOf, delivers, isCut, entryIn, eventOf}
 use Rattle.rules.specs.Idle.{idle}
 use Rattle.rules.proofs.Laws.Bool.{and-left, and-right, and-both, or-case}
 use Rattle.rules.proofs.Laws.All.{all-each, all-every}

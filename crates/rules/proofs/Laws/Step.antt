@@ -9,7 +9,7 @@ use Rattle.rules.specs.declared.course.Way.{Way}
 use Rattle.rules.specs.Limits.{lastRound, tooMany}
 use Rattle.rules.specs.Events.{cutIf, onSuspect, onRecover}
 use Rattle.rules.specs.Step.{Refuses, Takes, idles, orIdle}
-use Rattle.rules.specs.Parts.{orPast, unlessPast, orImpossible, unlessMany, orUp, lifted, liftUnless}
+use Rattle.rules.specs.Private.{orPast, unlessPast, orImpossible, unlessMany, orUp, lifted, liftUnless}
 
 module _ (cut : Bool) (i : ℕ) (p : Process) (x : Next) (k : ℕ) where
   -- a delivery that is idle, and one that is heard and lifts the depth to k

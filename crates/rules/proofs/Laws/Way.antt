@@ -17,17 +17,17 @@ use Rattle.rules.specs.declared.store.Spot.{Spot}
 use Rattle.rules.specs.declared.step.Step.{Step}
 use Rattle.rules.specs.declared.step.Step.the-variants.{DeliverE, DeliverS, DeliverF, DeliverDecision, Suspect, Pause, Crash, Recover}
 use Rattle.rules.specs.Limits.{greatestSize, lastRound, storeLength, deepestMessage, deepestProcess}
-use Rattle.rules.specs.Records.{processAt, depthAt}
+use Rattle.rules.specs.Layout.{processAt, depthAt}
 use Rattle.rules.specs.Store.{placeOf, entryFor, messageRound, handOver, turned}
 use Rattle.rules.specs.Tally.{bitOf}
-use Rattle.rules.specs.Steps.{takerOf, delivers, entryIn}
+use Rattle.rules.specs.Kinds.{takerOf, delivers, entryIn}
 use Rattle.rules.specs.Idle.{idle, idleE, idleS, idleF}
 use Rattle.rules.specs.Depths.{deliveredDepth, raises, raised, depthAfter, datedAt, dated}
 use Rattle.rules.specs.Refusals.{tooDeep}
 use Rattle.rules.specs.Step.{Course, Idles, Refuses, Takes, course, settled, stepped, Ready}
 use Rattle.rules.proofs.Laws.Course.{held-course, taken-outcome}
 use Rattle.rules.proofs.Laws.Passing.{course-takes}
-use Rattle.rules.specs.Parts.{numberRows, heldCourse, lifted, liftUnless, lifts, liftOf, spotOf, HandsOver, HandsOverBoth}
+use Rattle.rules.specs.Private.{numberRows, heldCourse, lifted, liftUnless, lifts, liftOf, spotOf, HandsOver, HandsOverBoth}
 
 -- ---- which course a way has
 

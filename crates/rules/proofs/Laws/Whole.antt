@@ -20,9 +20,9 @@ use Rattle.rules.specs.Answers.{saysRefused, outcome}
 use Rattle.rules.specs.Start.{startedTo, firstMessage, openedDepths, unlessRefusedStart}
 use Rattle.rules.specs.Step.{Course, Idles, Refuses, Takes, unlessRefused, handOvers, sentBy, course, settled, stepped}
 use Rattle.rules.specs.Limits.{greatestSize, storeLength, deepestMessage, deepestProcess, among}
-use Rattle.rules.specs.Records.{withProcess, depthAt, withDepth, Sized, blankGroup}
+use Rattle.rules.specs.Layout.{withProcess, depthAt, withDepth, Sized, blankGroup}
 use Rattle.rules.specs.Store.{handOver, cleared}
-use Rattle.rules.specs.Steps.{takerOf, delivers}
+use Rattle.rules.specs.Kinds.{takerOf, delivers}
 use Rattle.rules.proofs.Laws.Bool.{and-left}
 use Rattle.rules.proofs.Laws.Row.{row-zero, among-true}
 use Rattle.rules.proofs.Laws.Store.{opened-length, cleared-length}

@@ -8,7 +8,7 @@ use lib.ListN.{length, getD}
 use borrow.Author.Tests.{le-ltb}
 use Rattle.rules.specs.declared.step.Step.{Step}
 use Rattle.rules.specs.Limits.{greatestSize, storeLength}
-use Rattle.rules.specs.Records.{Sized}
+use Rattle.rules.specs.Layout.{Sized}
 use Rattle.rules.specs.Refusals.{row, short, miscounted}
 use Rattle.rules.proofs.Bare.Run.{State, stateOf, startState, next, after}
 use Rattle.rules.proofs.Bare.Statements.{Begins, at}

@@ -14,9 +14,10 @@ use Rattle.rules.specs.declared.step.Step.{Step}
 use Rattle.rules.specs.declared.step.Step.the-variants.{DeliverE, DeliverS, DeliverF, Pause, Crash, Recover}
 use Rattle.rules.specs.Limits.{greatestSize, storeLength, mostRecoveries}
 use Rattle.rules.specs.Tally.{joined, bitOf}
-use Rattle.rules.specs.Records.{stored, processAt, forgetting, blank}
+use Rattle.rules.specs.Layout.{processAt, forgetting}
+use Rattle.rules.specs.Records.{stored, blank}
 use Rattle.rules.specs.Store.{kindE, kindS, kindF, proposerOf, sentIn}
-use Rattle.rules.specs.Steps.{takerOf}
+use Rattle.rules.specs.Kinds.{takerOf}
 use Rattle.rules.specs.Refusals.{strange, isRecover, down}
 use Rattle.rules.specs.Step.{Course}
 use Rattle.rules.specs.Run.{State, startState, next, after, answers, Handed, handed, handedByCourse, handedBy, handedIn, handedFrom}

@@ -16,10 +16,10 @@ use Rattle.rules.specs.Step.{Course, Idles, Refuses, Takes, idles, orIdl
 use Rattle.rules.proofs.Bare.Run.{State, next, after}
 use Rattle.rules.proofs.Bare.Step.{refusal, course, settled, stepped}
 use Rattle.rules.specs.Limits.{greatestSize, storeLength}
-use Rattle.rules.specs.Records.{processAt, withProcess, Sized}
+use Rattle.rules.specs.Layout.{processAt, withProcess, Sized}
 use Rattle.rules.specs.Store.{placeOf, entryFor, handOver}
 use Rattle.rules.specs.Events.{crashed, quiet, onCrash, cutIf}
-use Rattle.rules.specs.Steps.{takerOf, isCut, eventOf}
+use Rattle.rules.specs.Kinds.{takerOf, isCut, eventOf}
 use Rattle.rules.specs.Idle.{idle}
 use Rattle.rules.proofs.Laws.Store.{IsMessage, place-lt, handOver-length, handing, own, other}
 use Rattle.rules.proofs.Laws.Group.{process-put, process-kept}

@@ -8,11 +8,11 @@ use Rattle.rules.specs.declared.process.Process.{Process}
 use Rattle.rules.specs.declared.process.Next.{Next}
 use Rattle.rules.specs.declared.step.Step.{Step}
 use Rattle.rules.specs.declared.step.Step.the-variants.{DeliverE, DeliverS, DeliverF, DeliverDecision, Suspect, Pause, Crash, Recover}
-use Rattle.rules.specs.Records.{processAt}
+use Rattle.rules.specs.Layout.{processAt}
 use Rattle.rules.specs.Events.{takes, enters, joinsEstimates, joinsSuspicions, decides, secondPhase, marks, paused, crashed, recovered, quiet, changed}
 use Rattle.rules.specs.Events.{jumpsIf, jumps, relaysIf, relays, decidesIf, decidesAt, goesToPhase2, goesToPhase2If, toPhase2, adoptsIf, adopts}
 use Rattle.rules.specs.Events.{entersNextIf, entersNextAt, onE, onS, onF, onDecision, onSuspect, onPause, onCrash, onRecover}
-use Rattle.rules.specs.Steps.{takerOf, eventOf}
+use Rattle.rules.specs.Kinds.{takerOf, eventOf}
 use Rattle.rules.specs.Refusals.{isRecover}
 
 abbrev pub lasting : Process → ℕ × ℕ

@@ -26,7 +26,7 @@ use Rattle.rules.proofs.Bare.Statements.{Begins, at, RefusalSix}
 use Rattle.rules.proofs.Bare.Step.{begun, damaged, refusalBy, refusal, course, settled, stepped}
 use Rattle.rules.specs.Limits.{greatestSize, lastRound, storeLength, among}
 use Rattle.rules.specs.Store.{kindE, kindS, kindF, placeOf, messageRound, handOver, cleared}
-use Rattle.rules.specs.Steps.{numbersOf, roundOf, delivers, slotOf, entryIn}
+use Rattle.rules.specs.Kinds.{numbersOf, roundOf, delivers, slotOf, entryIn}
 use Rattle.rules.specs.Safety.Among.{here, later}
 use Rattle.rules.proofs.Laws.Bool.{and-right, and-both}
 use Rattle.rules.proofs.Laws.Store.{Place, slot-same, IsMessage, place-lt, handOver-length, handOver-own, handOver-other, cleared-length, cleared-below}

@@ -22,9 +22,9 @@ use Rattle.rules.proofs.Bare.Statements.{Begins, at, processOf, recover
 use Rattle.rules.proofs.Bare.Step.{begun, refusalBy, refusal, course, settled, stepped}
 use Rattle.rules.specs.Limits.{greatestSize, mostRecoveries, tooMany, storeLength}
 use Rattle.rules.specs.Tally.{bitOf}
-use Rattle.rules.specs.Records.{processAt, Sized}
+use Rattle.rules.specs.Layout.{processAt, Sized}
 use Rattle.rules.specs.Events.{crashed, recovered, quiet, onCrash, onRecover, cutIf}
-use Rattle.rules.specs.Steps.{takerOf, numbersOf, roundOf, delivers, isCut, eventOf}
+use Rattle.rules.specs.Kinds.{takerOf, numbersOf, roundOf, delivers, isCut, eventOf}
 use Rattle.rules.specs.Idle.{idle}
 use Rattle.rules.proofs.Laws.Row.{among-in}
 use Rattle.rules.proofs.Laws.Group.{process-put, started-process}

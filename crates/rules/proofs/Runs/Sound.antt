@@ -25,11 +25,11 @@ use Rattle.rules.proofs.Bare.Statements.{Begins, at, processOf, SoundGr
 use Rattle.rules.proofs.Bare.Step.{begun, damaged, refusalBy, refusal, settled, stepped}
 use Rattle.rules.specs.Limits.{greatestSize, storeLength, among}
 use Rattle.rules.specs.Tally.{holds}
-use Rattle.rules.specs.Records.{processAt, Sized}
+use Rattle.rules.specs.Layout.{processAt, Sized}
 use Rattle.rules.specs.Store.{entryOf, proposerOf, valueOf, entryFor}
 use Rattle.rules.specs.Events.{takes, enters, joinsEstimates, joinsSuspicions, decides, secondPhase, marks, paused, crashed, recovered, quiet, changed, jumpsIf, jumps, relaysIf, relays, decidesIf, decidesAt, goesToPhase2, goesToPhase2If, toPhase2, adoptsIf, adopts, opensIf, opens, entersNextIf, entersNextAt, onE, onS, onF, onDecision, onSuspect, onPause, onCrash, onRecover, cutIf}
-use Rattle.rules.specs.Steps.{takerOf, isCut, delivers, slotOf, entryIn, eventOf}
-use Rattle.rules.specs.Parts.{numberRows}
+use Rattle.rules.specs.Kinds.{takerOf, isCut, delivers, slotOf, entryIn, eventOf}
+use Rattle.rules.specs.Private.{numberRows}
 use Rattle.rules.proofs.Laws.Row.{row-pass, among-in}
 use Rattle.rules.proofs.Laws.Count.{count-le}
 use Rattle.rules.proofs.Laws.Tally.{ones-count}

@@ -24,9 +24,10 @@ use Rattle.rules.proofs.Bare.Run.{State, startState, next, after}
 use Rattle.rules.proofs.Bare.Statements.{Begins, at, processOf, FirstValuesStay, DecisionsStay, DownThrough, Recovery, DownKeeps, GoingDownKeeps, CutStores}
 use Rattle.rules.proofs.Bare.Step.{begun, refusalBy, refusal, course, settled, stepped}
 use Rattle.rules.specs.Limits.{greatestSize}
-use Rattle.rules.specs.Records.{Stored, stored, processAt, withProcess, Sized}
+use Rattle.rules.specs.Layout.{processAt, withProcess, Sized}
+use Rattle.rules.specs.Records.{Stored, stored}
 use Rattle.rules.specs.Events.{paused, crashed, recovered, quiet, onPause, onCrash, onRecover, cutIf}
-use Rattle.rules.specs.Steps.{takerOf, isCut, entryIn, eventOf, numbersOf, roundOf, delivers, slotOf}
+use Rattle.rules.specs.Kinds.{takerOf, isCut, entryIn, eventOf, numbersOf, roundOf, delivers, slotOf}
 use Rattle.rules.specs.Idle.{pastFor, idle, idleE, idleS, idleF}
 use Rattle.rules.proofs.Laws.Bool.{and-left, or-left}
 use Rattle.rules.proofs.Laws.Group.{process-put, process-kept, started-process}

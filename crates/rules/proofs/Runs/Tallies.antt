@@ -27,11 +27,11 @@ use Rattle.rules.proofs.Bare.Statements.{Begins, at, processOf, Tallies
 use Rattle.rules.proofs.Bare.Step.{begun, course, settled, stepped}
 use Rattle.rules.specs.Limits.{greatestSize, lastRound, storeLength, majority, coordinator, among}
 use Rattle.rules.specs.Tally.{holds, joined, meets, within}
-use Rattle.rules.specs.Records.{processAt, withProcess, Sized}
+use Rattle.rules.specs.Layout.{processAt, withProcess, Sized}
 use Rattle.rules.specs.Store.{slot, kindE, kindS, kindF, proposerOf, valueOf, placeOf, messageRound, entryFor, handOver}
 use Rattle.rules.specs.Events.{takes, enters, joinsEstimates, joinsSuspicions, decides, secondPhase, marks, paused, crashed, recovered, quiet, changed, jumpsIf, jumps, relaysIf, relays, decidesIf, decidesAt, goesToPhase2, goesToPhase2If, toPhase2, adoptsIf, adopts, entersNextIf, entersNextAt, onE, onS, onF, onDecision, onSuspect, onPause, onCrash, onRecover, cutIf}
-use Rattle.rules.specs.Steps.{takerOf, numbersOf, delivers, isCut, slotOf, entryIn, eventOf}
-use Rattle.rules.specs.Idle.{pastFor, idleE, idleS, idleF, idle, at as inPhase}
+use Rattle.rules.specs.Kinds.{takerOf, numbersOf, delivers, isCut, slotOf, entryIn, eventOf}
+use Rattle.rules.specs.Idle.{pastFor, idleE, idleS, idleF, idle, inPhase}
 use Rattle.rules.proofs.Laws.Bool.{and-both, or-case, or-left, or-right}
 use Rattle.rules.proofs.Laws.Tally.{holds-joined, holds-empty, joined-below}
 use Rattle.rules.proofs.Laws.Store.{IsMessage, place-lt, own, other, handing, handOver-length}

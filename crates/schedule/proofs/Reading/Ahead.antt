@@ -12,7 +12,7 @@ use lib.ListN.{length, getD, drop}
 use lib.Seq.{drop-cons}
 use Rattle.text.specs.Number.{isDigit, pick, most, scan, numberAt}
 use Rattle.schedule.specs.Line.{numbersAfter, spacedAt, nextNumber}
-use Rattle.schedule.specs.Parts.{Ahead, NoLf, AheadIs, LastLf}
+use Rattle.schedule.specs.Private.{Ahead, NoLf, AheadIs, LastLf}
 use Rattle.text.specs.declared.number.Number.the-variants.{Bad, Value}
 use Rattle.text.proofs.NumberLaws.{digit-range}
 use Rattle.schedule.proofs.Reading.Cases.{past-none, spaced-is, space-here}

@@ -15,7 +15,7 @@ use Rattle.text.specs.Number.{pick, numberAt}
 use Rattle.schedule.specs.Lines.{Item, broken, item}
 use Rattle.schedule.specs.Line.{onNumber, closed, End, noEnd, ends, onEnd, numbersAfter, mayCut, stepOf, spacedAt, nextNumber, endAt, afterLetter, lineAt}
 use Rattle.schedule.specs.Header.{wordAt}
-use Rattle.schedule.specs.Parts.{placeAfter, placeOfEnd}
+use Rattle.schedule.specs.Private.{placeAfter, placeOfEnd}
 use Rattle.text.specs.declared.number.Number.{Number}
 use Rattle.text.specs.declared.number.Number.the-variants.{Bad, Value}
 use Rattle.schedule.specs.declared.header.Word.the-variants.{Missing, Past}

@@ -5,7 +5,7 @@ use native.Mathlib.Omega.{arith}
 use Prim.Native.Nat.{ℕ, zero, suc, _+_, _-_, _≤_, _<_}
 use lib.ListN.{length}
 use Rattle.schedule.specs.Lines.{Item, broken, item, onItem, Items, brokenAt, items, before, linesAt}
-use Rattle.schedule.specs.Parts.{linesEnd}
+use Rattle.schedule.specs.Private.{linesEnd}
 use Rattle.schedule.specs.declared.section.Lines.{Lines}
 
 -- ---- what an item and some items hold

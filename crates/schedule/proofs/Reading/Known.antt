@@ -13,7 +13,7 @@ use Rattle.rules.specs.declared.step.Step.{Step}
 use Rattle.text.specs.Number.{isDigit, pick, most, scan, numberAt}
 use Rattle.schedule.specs.Lines.{Item, broken, item, onItem}
 use Rattle.schedule.specs.Line.{numbersAfter, mayCut, stepOf, onNumber, End, noEnd, ends, onEnd, spacedAt, nextNumber, endAt, afterLetter, lineAt}
-use Rattle.schedule.specs.Parts.{KnownNumber, KnownNext, KnownLine, valueRead}
+use Rattle.schedule.specs.Private.{KnownNumber, KnownNext, KnownLine, valueRead}
 use Rattle.schedule.specs.declared.line.Read.{Read}
 use Rattle.text.specs.declared.number.Number.{Number}
 use Rattle.text.specs.declared.number.Number.the-variants.{Bad, Value}

@@ -13,7 +13,7 @@ use Rattle.schedule.specs.Lines.{Item, broken, item}
 use Rattle.schedule.specs.Line.{spaced, ending, lineOf, lineAt}
 use Rattle.schedule.specs.Values.{valueAt}
 use Rattle.schedule.specs.Header.{aloneAt}
-use Rattle.schedule.specs.Parts.{NoLf}
+use Rattle.schedule.specs.Private.{NoLf}
 use Rattle.text.specs.declared.number.Number.{Number}
 use Rattle.text.specs.declared.number.Number.the-variants.{Bad, Value}
 use Rattle.text.proofs.StandsLaws.{stands-rest, stands-within, byte-stands}

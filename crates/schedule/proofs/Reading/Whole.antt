@@ -21,7 +21,7 @@ use Rattle.schedule.specs.Line.{onNumber, closed, lineAt, asLine}
 use Rattle.schedule.specs.Header.{wordAt, aloneAt, headerAt, valuesWord, warmupWord, measuredWord}
 use Rattle.schedule.specs.Values.{valueAt}
 use Rattle.schedule.specs.Schedule.{faulty, faultAt, noFault, noPart, part, partAt, measuredFrom, warmupFrom, valuesFrom, readFile}
-use Rattle.schedule.specs.Parts.{LastLf, placeAfter, linesEnd, numberOf, valuesRead, KnownLine, PartGood, PartIs, OpeningGood, OpeningIs, ValuesAre, StepsAre, FormCase, FormIs}
+use Rattle.schedule.specs.Private.{LastLf, placeAfter, linesEnd, numberOf, valuesRead, KnownLine, PartGood, PartIs, OpeningGood, OpeningIs, ValuesAre, StepsAre, FormCase, FormIs}
 use Rattle.text.specs.declared.number.Number.{Number}
 use Rattle.text.specs.declared.number.Number.the-variants.{Bad, Value}
 use Rattle.schedule.specs.declared.header.Word.{Word}

@@ -9,7 +9,7 @@ use Prim.Native.Nat.{ℕ, zero, suc, _+_, _≤_}
 use lib.ListN.{length}
 use Rattle.rules.specs.Limits.{greatestSize}
 use Rattle.rules.specs.Tally.{bitOf, count}
-use Rattle.rules.specs.Records.{processAt, withProcess, withDepth, Sized}
+use Rattle.rules.specs.Layout.{processAt, withProcess, withDepth, Sized}
 use Rattle.rules.specs.Depths.{depthAfter}
 use Rattle.rules.specs.Start.{fresh, startedTo}
 use Rattle.rules.specs.Step.{Course, Idles, Refuses, Takes, decidesNow, settled, stepped, course}

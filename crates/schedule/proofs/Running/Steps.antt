@@ -7,7 +7,7 @@ use Prim.Native.Nat.{ℕ, _+_, _-_, _*_, _≤_, _<_}
 use lib.Dec.{eqb}
 use lib.ListN.{length, getD}
 use Rattle.rules.specs.Tally.{bitOf}
-use Rattle.rules.specs.Records.{Sized}
+use Rattle.rules.specs.Layout.{Sized}
 use Rattle.rules.specs.Store.{placeOf, handOver, turned}
 use Rattle.rules.specs.Answers.{Said, Outcome, outcome}
 use Rattle.rules.specs.Depths.{depthAfter}
@@ -25,7 +25,7 @@ use Rattle.schedule.specs.Lines.{items, linesAt}
 use Rattle.schedule.specs.Line.{lineAt}
 use Rattle.schedule.specs.Counts.{none, isRefused, counted, countedAll}
 use Rattle.schedule.specs.Run.{countsOf}
-use Rattle.schedule.specs.Parts.{KnownLine, lineRead, StepsAt, Room, RunReady, stateWith, RanSteps, RanTo}
+use Rattle.schedule.specs.Private.{KnownLine, lineRead, StepsAt, Room, RunReady, stateWith, RanSteps, RanTo}
 use Rattle.schedule.specs.declared.counts.Counts.{Counts}
 use Rattle.schedule.specs.declared.line.Taken.{Taken}
 use Rattle.schedule.proofs.Reading.InARow.{First, lines-first, lines-none, one-less, same-thing, same-place, same-things}

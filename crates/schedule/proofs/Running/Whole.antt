@@ -9,7 +9,7 @@ use lib.Dec.{eqb, ltb}
 use lib.ListN.{length, take}
 use borrow.Author.Tests.{le-ltb, ltb-false, eqb-false, ne-eqb}
 use Rattle.rules.specs.Limits.{greatestSize, storeLength}
-use Rattle.rules.specs.Records.{Sized}
+use Rattle.rules.specs.Layout.{Sized}
 use Rattle.rules.specs.Refusals.{row, short, miscounted, damaged, startRefusal, refusal}
 use Rattle.rules.specs.Answers.{Said, saysRefused, Outcome, outcome}
 use Rattle.rules.specs.Start.{started}
@@ -24,7 +24,7 @@ use Rattle.schedule.specs.Counts.{none, counted, countedAll, refusedAll}
 use Rattle.schedule.specs.Schedule.{Schedule, Reading, faulty, sound, readFile, Fits, noFault}
 use Rattle.schedule.specs.Run.{countsOf, hasRun, notRun, runBy, runOf, begins, between}
 use Rattle.schedule.specs.Run.{outcome as ranTo}
-use Rattle.schedule.specs.Parts.{FormGood, FormCase, FormIs, RunReady, stateWith, RanSteps, RanTo, BothReady, RanBoth, BothRan, SoundRan}
+use Rattle.schedule.specs.Private.{FormGood, FormCase, FormIs, RunReady, stateWith, RanSteps, RanTo, BothReady, RanBoth, BothRan, SoundRan}
 use Rattle.schedule.specs.declared.counts.Counts.{Counts}
 use Rattle.schedule.specs.declared.fault.Fault.{Fault}
 use Rattle.schedule.specs.declared.file.Form.{Form}

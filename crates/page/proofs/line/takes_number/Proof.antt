@@ -5,7 +5,7 @@ use lib.Dec.{ltb}
 use borrow.Author.Tests.{eq-eqb, ne-eqb}
 use Rattle.text.specs.Number.{pick}
 use Rattle.page.specs.Filled.{mark}
-use Rattle.page.specs.Parts.{takes}
+use Rattle.page.specs.Private.{takes}
 use Rattle.page.proofs.line.takes_number.Statement.{statement}
 use Rattle.page.proofs.line.takes_number.Tie as tie
 

@@ -6,7 +6,7 @@ use denote.Ref.{now}
 use borrow.Author.Needs.{needs}
 use Rattle.page.specs.Limits.{longestLine}
 use Rattle.page.specs.Report.{processLines}
-use Rattle.page.specs.Parts.{Piece}
+use Rattle.page.specs.Private.{Piece}
 use Rattle.text.proofs.PutLaws.{wrote-length}
 use Rattle.page.proofs.PieceLaws.{piece-none, piece-within, room-behind}
 use Rattle.page.proofs.ReportLaws.{piece-line}

@@ -1,6 +1,6 @@
 -- `decision_address` meets its contract: its tests are row 3. Assumes nothing.
 use Rattle.rules.proofs.Laws.Row.{among-true}
-use Rattle.rules.specs.Parts.{unlessMissed}
+use Rattle.rules.specs.Private.{unlessMissed}
 use Rattle.rules.specs.Refusals.{row}
 use Rattle.rules.specs.declared.course.Address.the-variants.{Misses, At}
 use Rattle.rules.specs.declared.course.Address.{Address}

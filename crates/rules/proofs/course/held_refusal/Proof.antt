@@ -1,5 +1,5 @@
 -- `held_refusal` meets its contract: its tests are rows 5, 6, 2 and 14, in their order. Assumes nothing.
-use Rattle.rules.specs.Parts.{heldRows}
+use Rattle.rules.specs.Private.{heldRows}
 use Rattle.rules.specs.Refusals.{row}
 use Rattle.rules.specs.Store.{proposerOf}
 use Rattle.rules.specs.Limits.{deepestMessage, among}

@@ -1,6 +1,6 @@
 -- `message_address` meets its contract: its tests are rows 3 and 4, in their order. Assumes nothing.
 use Rattle.rules.proofs.Laws.Row.{among-true}
-use Rattle.rules.specs.Parts.{unlessMissed}
+use Rattle.rules.specs.Private.{unlessMissed}
 use Rattle.rules.specs.Refusals.{row}
 use Rattle.rules.specs.Limits.{lastRound, among}
 use Rattle.rules.specs.declared.course.Address.the-variants.{Misses, At}

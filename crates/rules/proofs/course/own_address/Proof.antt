@@ -1,6 +1,6 @@
 -- `own_address` meets its contract: its test is row 3. Assumes nothing.
 use Rattle.rules.proofs.Laws.Row.{among-true}
-use Rattle.rules.specs.Parts.{unlessMissed}
+use Rattle.rules.specs.Private.{unlessMissed}
 use Rattle.rules.specs.Refusals.{row}
 use Rattle.rules.specs.declared.course.Address.the-variants.{Misses}
 use Rattle.rules.specs.declared.course.Address.{Address}

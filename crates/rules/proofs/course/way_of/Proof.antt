@@ -1,11 +1,11 @@
 -- `way_of` meets its contract: the address, then the course over the record, the entry and its depth. Assumes nothing.
 use Rattle.rules.proofs.Laws.Course.{reached, misses-course, taker-low, place-low, numbered}
 use Rattle.rules.proofs.Laws.Way.{lift-held}
-use Rattle.rules.specs.Parts.{lifted}
+use Rattle.rules.specs.Private.{lifted}
 use Rattle.rules.proofs.Laws.Passing.{deep-facts}
 use Rattle.rules.specs.Depths.{deliveredDepth}
-use Rattle.rules.specs.Steps.{entryIn}
-use Rattle.rules.specs.Records.{processAt}
+use Rattle.rules.specs.Kinds.{entryIn}
+use Rattle.rules.specs.Layout.{processAt}
 use lib.ListN.{getD}
 use native.Mathlib.Omega.{arith}
 use Prim.Native.Nat.{ℕ}

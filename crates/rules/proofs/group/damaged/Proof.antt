@@ -2,7 +2,7 @@
 use Rattle.rules.proofs.Laws.Row.{among-in}
 use Rattle.rules.proofs.Laws.All.{all-none}
 use Rattle.rules.specs.Refusals.{damaged, allOf, whole}
-use Rattle.rules.specs.Records.{processAt, depthAt, groupOf}
+use Rattle.rules.specs.Layout.{processAt, depthAt, groupOf}
 use Rattle.rules.specs.Limits.{deepestProcess, among}
 use Rattle.rules.specs.declared.group.Group.{Group}
 use borrow.Author.Tests.{lt-leb, leb-true, leb-false}

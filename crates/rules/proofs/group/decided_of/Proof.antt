@@ -1,5 +1,5 @@
 -- `decided_of` meets its contract: the flag is read at the second column. Assumes nothing.
-use Rattle.rules.specs.Records.{decidedIn}
+use Rattle.rules.specs.Layout.{decidedIn}
 use mathlib.Core.Path.{refl}
 use borrow.Author.Needs.{needs}
 use Rattle.rules.proofs.group.decided_of.Statement.{statement}

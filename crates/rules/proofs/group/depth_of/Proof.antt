@@ -1,5 +1,5 @@
 -- `depth_of` meets its contract: the depth is read at the third column. Assumes nothing.
-use Rattle.rules.specs.Records.{depthIn}
+use Rattle.rules.specs.Layout.{depthIn}
 use mathlib.Core.Path.{refl}
 use borrow.Author.Needs.{needs}
 use Rattle.rules.proofs.group.depth_of.Statement.{statement}

@@ -1,5 +1,5 @@
 -- `put_back` meets its contract: each field is written at its column. Assumes nothing.
-use Rattle.rules.specs.Records.{withProcess}
+use Rattle.rules.specs.Layout.{withProcess}
 use mathlib.Core.Path.{refl}
 use borrow.Author.Needs.{needs}
 use Rattle.rules.proofs.group.put_back.Statement.{statement}

@@ -1,5 +1,5 @@
 -- `put_deep` meets its contract: the record is put back, then the depth is written at the third column. Assumes nothing.
-use Rattle.rules.specs.Records.{withDepth}
+use Rattle.rules.specs.Layout.{withDepth}
 use Rattle.rules.specs.declared.group.Group.{Group}
 use mathlib.Core.Path.{ap}
 use borrow.Author.Needs.{needs}

@@ -1,5 +1,5 @@
 -- `take_out` meets its contract: each field is read at its column. Assumes nothing.
-use Rattle.rules.specs.Records.{processAt}
+use Rattle.rules.specs.Layout.{processAt}
 use mathlib.Core.Path.{refl}
 use borrow.Author.Needs.{needs}
 use Rattle.rules.proofs.group.take_out.Statement.{statement}

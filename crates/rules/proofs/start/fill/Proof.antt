@@ -1,7 +1,7 @@
 -- `fill` meets its contract: before each turn the first k processes are started. Assumes nothing.
 use borrow.Author.Needs.{needs}
 use Rattle.rules.specs.Start.{startedTo, fresh}
-use Rattle.rules.specs.Records.{groupOf, withProcess, blankGroup}
+use Rattle.rules.specs.Layout.{groupOf, withProcess, blankGroup}
 use Rattle.rules.specs.declared.process.Process.{Process}
 use Rattle.rules.specs.declared.group.Group.{Group}
 use lib.ListN.{length, getD}

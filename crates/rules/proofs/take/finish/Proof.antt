@@ -3,7 +3,7 @@ use Rattle.rules.proofs.Laws.Course.{finishes}
 use Rattle.rules.specs.Answers.{said}
 use Rattle.rules.specs.Step.{decidesNow}
 use Prim.Native.Nat.{ℕ, max}
-use Rattle.rules.specs.Records.{processAt, decidedIn}
+use Rattle.rules.specs.Layout.{processAt, decidedIn}
 use mathlib.Core.Bool.{Bool, _&&_, not}
 use mathlib.Core.Path.{ap, _∙_}
 use borrow.Author.Needs.{needs}

@@ -2,7 +2,7 @@
 use Rattle.rules.proofs.Laws.Course.{idle-outcome, refused-outcome, takes-handable}
 use Rattle.rules.proofs.Laws.Way.{way-idles, way-refuses, way-takes, taken-lift, taken-way}
 use Rattle.rules.specs.Answers.{said}
-use Rattle.rules.specs.Records.{depthAt}
+use Rattle.rules.specs.Layout.{depthAt}
 use mathlib.Core.Path.{sym, _∙_}
 use borrow.Author.Needs.{needs}
 use Rattle.rules.proofs.take.step_sound.Statement.{statement}

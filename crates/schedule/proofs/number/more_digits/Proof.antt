@@ -6,7 +6,7 @@ use native.Mathlib.Omega.{arith}
 use lib.ListN.{length, drop}
 use denote.Ref.{now}
 use Rattle.text.specs.Number.{most, scan}
-use Rattle.schedule.specs.Parts.{Ahead}
+use Rattle.schedule.specs.Private.{Ahead}
 use Rattle.text.proofs.NumberLaws.{Digit, digit-here, at-more, at-over, at-stop}
 use Rattle.schedule.proofs.Reading.Ahead.{ahead-digit}
 use Rattle.schedule.proofs.number.more_digits.Statement.{statement}

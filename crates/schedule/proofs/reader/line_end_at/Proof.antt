@@ -38,7 +38,7 @@ use denote.Triple.Walked.{says, needs, Stays, stay-none, stay-none-slice, walkOf
 use denote.Exit.{yes}
 use denote.Triple.Clauses.{ensured, lasts}
 use Rattle.schedule.specs.Line.{lineAt}
-use Rattle.schedule.specs.Parts.{Ahead, placeAfter}
+use Rattle.schedule.specs.Private.{Ahead, placeAfter}
 use Rattle.schedule.specs.declared.reader.Reader.{Reader}
 use Rattle.schedule.proofs.reader.Reader as T
 use Rattle.schedule.proofs.reader.Reader.Laws as T′

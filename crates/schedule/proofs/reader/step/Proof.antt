@@ -43,7 +43,7 @@ use denote.Triple.Walked.{says, needs, Stays, stay-none, walkOf, goes-none, Walk
 use denote.Exit.{yes}
 use denote.Triple.Clauses.{ensured, lasts}
 use Rattle.schedule.specs.Line.{lineAt}
-use Rattle.schedule.specs.Parts.{KnownLine, lineRead}
+use Rattle.schedule.specs.Private.{KnownLine, lineRead}
 use Rattle.schedule.specs.Lines.{Item}
 use Rattle.schedule.specs.declared.line.Taken.{Taken}
 use Rattle.schedule.specs.declared.reader.Reader.{Reader}

@@ -1,6 +1,6 @@
 -- `run::no_run` meets its contract: no counts, and a group of size 0. Assumes nothing.
 use mathlib.Core.Path.{ap₂}
-use Rattle.rules.specs.Records.{blankGroup}
+use Rattle.rules.specs.Layout.{blankGroup}
 use Rattle.schedule.specs.Run.{notRun}
 use Rattle.schedule.specs.declared.counts.Counts.{Counts}
 use borrow.Author.Needs.{needs}

@@ -3,8 +3,8 @@ use Prim.Native.Nat.{_-_}
 use mathlib.Core.Path.{sym}
 use native.Mathlib.Omega.{arith}
 use borrow.Author.Needs.{needs}
-use Rattle.rules.specs.Records.{groupOf}
-use Rattle.schedule.specs.Parts.{stateWith}
+use Rattle.rules.specs.Layout.{groupOf}
+use Rattle.schedule.specs.Private.{stateWith}
 use Rattle.schedule.proofs.Running.Steps.{Going, counts-same, going-none, going-known, going-room, going-on, going-done}
 use Rattle.schedule.proofs.run.run_steps.Statement.{statement}
 use Rattle.schedule.proofs.run.run_steps.Tie as tie

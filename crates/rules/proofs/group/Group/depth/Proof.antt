@@ -1,6 +1,7 @@
 -- `Group::depth` meets its contract: the test of the number picks the case of the definition. Assumes nothing.
 use Rattle.rules.proofs.Laws.Row.{among-true}
-use Rattle.rules.specs.Records.{depthAt, depthIn, depthOf, depthIf}
+use Rattle.rules.specs.Layout.{depthAt, depthIn}
+use Rattle.rules.specs.Records.{depthOf, depthIf}
 use Rattle.rules.specs.Limits.{among}
 use Rattle.rules.specs.declared.group.Group.{Group}
 use borrow.Author.Tests.{not-true, not-false}

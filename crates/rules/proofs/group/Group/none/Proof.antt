@@ -1,5 +1,5 @@
 -- `Group::none` meets its contract: the arrays are all 0. Assumes nothing.
-use Rattle.rules.specs.Records.{blankGroup}
+use Rattle.rules.specs.Layout.{blankGroup}
 use mathlib.Core.Path.{refl}
 use Rattle.rules.proofs.group.Group.none.Statement.{statement}
 use Rattle.rules.proofs.group.Group.none.Tie as tie

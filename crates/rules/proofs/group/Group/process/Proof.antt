@@ -1,6 +1,7 @@
 -- `Group::process` meets its contract: the test of the number picks the case of the definition. Assumes nothing.
 use Rattle.rules.proofs.Laws.Row.{among-true}
-use Rattle.rules.specs.Records.{processAt, recordOf, recordIf, blank}
+use Rattle.rules.specs.Layout.{processAt}
+use Rattle.rules.specs.Records.{recordOf, recordIf, blank}
 use Rattle.rules.specs.declared.group.Group.{Group}
 use borrow.Author.Tests.{not-true, not-false}
 use native.Mathlib.Omega.{arith}

@@ -3,7 +3,7 @@ use Rattle.rules.proofs.Laws.Row.{row-zero, among-true}
 use Rattle.rules.specs.Refusals.{startRefusal, short, miscounted}
 use Rattle.rules.specs.Answers.{outcome, said, saysApplied, saysRefused}
 use Rattle.rules.specs.Start.{startedTo, opened, openedDepths, unlessRefusedStart, started}
-use Rattle.rules.specs.Records.{blankGroup}
+use Rattle.rules.specs.Layout.{blankGroup}
 use Rattle.rules.specs.Limits.{greatestSize, storeLength, among}
 use Rattle.rules.specs.declared.group.Group.{Group}
 use borrow.Author.Tests.{ltb-false, not-false}

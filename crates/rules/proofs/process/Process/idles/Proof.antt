@@ -1,5 +1,5 @@
 -- `Process::idles` meets its contract: the cut picks the case. Assumes nothing.
-use Rattle.rules.specs.Parts.{lifted}
+use Rattle.rules.specs.Private.{lifted}
 use Rattle.rules.specs.Step.{idles}
 use borrow.Author.Needs.{needs}
 use Rattle.rules.proofs.process.Process.idles.Statement.{statement}

@@ -1,9 +1,9 @@
 -- `Process::way` meets its contract: refused, or the last course. Assumes nothing.
 use Rattle.rules.proofs.Laws.Course.{held-names}
-use Rattle.rules.specs.Parts.{heldRows, heldCourse, unlessHeld, lastCourse, lifted}
+use Rattle.rules.specs.Private.{heldRows, heldCourse, unlessHeld, lastCourse, lifted}
 use Rattle.rules.specs.Refusals.{isRecover}
 use Rattle.rules.specs.Step.{Refuses}
-use Rattle.rules.specs.Steps.{delivers}
+use Rattle.rules.specs.Kinds.{delivers}
 use Rattle.rules.specs.declared.step.Step.{Step}
 use Rattle.rules.specs.declared.process.Process.{Process}
 use Prim.Native.Nat.{ℕ, zero, suc}

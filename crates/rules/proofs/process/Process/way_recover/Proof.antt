@@ -1,7 +1,7 @@
 -- `Process::way_recover` meets its contract: up, one recovery too many, or taken. Assumes nothing.
 use Rattle.rules.proofs.Laws.Step.{up-yes, up-many, up-no}
 use Rattle.rules.specs.Step.{Takes}
-use Rattle.rules.specs.Parts.{lifted}
+use Rattle.rules.specs.Private.{lifted}
 use Rattle.rules.specs.Limits.{mostRecoveries}
 use borrow.Author.Tests.{lt-ltb, le-ltb}
 use native.Mathlib.Omega.{arith}

@@ -1,6 +1,6 @@
 -- `Process::way_suspect` meets its contract: possible, or refused. Assumes nothing.
 use Rattle.rules.specs.Step.{Takes}
-use Rattle.rules.specs.Parts.{lifted}
+use Rattle.rules.specs.Private.{lifted}
 use Rattle.rules.specs.Events.{cutIf}
 use Rattle.rules.proofs.Laws.Step.{possible-yes, possible-no}
 use mathlib.Core.Path.{sym, _∙_, ap}

@@ -1,7 +1,7 @@
 -- `Step::address` meets its contract: each kind of step has its numbers. Assumes nothing.
-use Rattle.rules.specs.Parts.{numberRows, addressOf}
+use Rattle.rules.specs.Private.{numberRows, addressOf}
 use Rattle.rules.specs.Refusals.{row, every, late, isRecover}
-use Rattle.rules.specs.Steps.{takerOf, numbersOf, roundOf, delivers, slotOf}
+use Rattle.rules.specs.Kinds.{takerOf, numbersOf, roundOf, delivers, slotOf}
 use borrow.Author.Needs.{needs}
 use Rattle.rules.proofs.step.Step.address.Statement.{statement}
 use Rattle.rules.proofs.step.Step.address.Tie as tie

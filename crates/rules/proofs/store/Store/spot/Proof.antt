@@ -1,5 +1,5 @@
 -- `Store::spot` meets its contract: each kind of message has its place and its entry. Assumes nothing.
-use Rattle.rules.specs.Parts.{spotOf}
+use Rattle.rules.specs.Private.{spotOf}
 use Rattle.rules.specs.Store.{placeOf, entryFor}
 use Rattle.rules.specs.declared.store.Spot.{Spot}
 use mathlib.Core.Path.{ap₂}

@@ -17,10 +17,10 @@ use Rattle.rules.specs.declared.process.Message.the-variants.{Nothing, E
 use Rattle.rules.specs.declared.step.Step.{Step}
 use Rattle.rules.specs.declared.step.Step.the-variants.{DeliverE, DeliverS, DeliverF, DeliverDecision, Suspect, Pause, Crash, Recover}
 use Rattle.rules.specs.Limits.{greatestSize, lastRound, tooMany, storeLength, deepestMessage, among}
-use Rattle.rules.specs.Records.{processAt}
+use Rattle.rules.specs.Layout.{processAt}
 use Rattle.rules.specs.Store.{proposerOf, valueOf, placeOf, entryFor, messageRound, handOver, turned}
 use Rattle.rules.specs.Events.{onE, onS, onF, onDecision, onSuspect, onPause, onCrash, onRecover, cutIf}
-use Rattle.rules.specs.Steps.{takerOf, numbersOf, delivers, slotOf}
+use Rattle.rules.specs.Kinds.{takerOf, numbersOf, delivers, slotOf}
 use Rattle.rules.specs.Idle.{idleE, idleS, idleF}
 use Rattle.rules.specs.Refusals.{row, every, late, isRecover, maySuspect}
 use Rattle.rules.specs.Depths.{deliveredDepth, dated}

@@ -7,7 +7,7 @@ use Rattle.rules.specs.declared.group.Group.{Group}
 use Rattle.rules.specs.declared.process.Next.{Next}
 use Rattle.rules.specs.declared.step.Step.{Step}
 use Rattle.rules.specs.declared.step.Step.the-variants.{DeliverE, DeliverS, DeliverF, DeliverDecision, Suspect, Pause, Crash, Recover}
-use Rattle.rules.specs.Records.{processAt}
+use Rattle.rules.specs.Layout.{processAt}
 use Rattle.rules.specs.Store.{slot, decisionSlot, kindE, kindS, kindF, proposerOf, valueOf}
 use Rattle.rules.specs.Events.{onE, onS, onF, onDecision, onSuspect, onPause, onCrash, onRecover}
 

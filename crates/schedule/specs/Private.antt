@@ -7,7 +7,7 @@ use Prim.Native.Nat.{ℕ, _+_, _-_, _*_, _≤_, _<_}
 use lib.Dec.{eqb}
 use lib.ListN.{length, getD, take}
 use Rattle.rules.specs.Limits.{greatestSize}
-use Rattle.rules.specs.Records.{Sized}
+use Rattle.rules.specs.Layout.{Sized}
 use Rattle.rules.specs.Step.{Ready}
 use Rattle.rules.specs.Run.{State, after}
 use Rattle.rules.specs.declared.group.Group.{Group}
