@@ -207,8 +207,8 @@ impl Group {
         Group::GREATEST
     }
 
-    // A group of size 0.
-    pub(crate) fn none() -> Group
+    // A group of size 0, with every record blank and every depth 0.
+    pub fn none() -> Group
         ensures { λ r. ⌜ r ≡ layout.blankGroup 0 ⌝ }
     {
         Group {

@@ -92,10 +92,11 @@ impl Group {
                 answer: Answer::Refused(refusal),
             };
         }
-        let mut words = [0u32; 3 * Group::GREATEST];
-        let mut halves = [0u16; 3 * Group::GREATEST];
-        let mut bytes = [0u8; 4 * Group::GREATEST];
-        let mut flags = [false; 3 * Group::GREATEST];
+        let blank = Group::none();
+        let mut words = blank.words;
+        let mut halves = blank.halves;
+        let mut bytes = blank.bytes;
+        let mut flags = blank.flags;
         fill(values, &mut words, &mut halves, &mut bytes, &mut flags);
         begin(values[0], store, depths);
         let group = Group {

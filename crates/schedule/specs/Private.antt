@@ -20,7 +20,7 @@ use Rattle.schedule.specs.Schedule.{Schedule, faulty, sound, valuesFrom,
 use Rattle.schedule.specs.Run.{countsOf, outcome, runBy}
 use Rattle.text.specs.declared.number.Number.{Number}
 use Rattle.schedule.specs.declared.line.Read.{Read}
-use Rattle.schedule.specs.declared.line.Taken.{Taken}
+use Rattle.schedule.specs.declared.line.StepRead.{StepRead}
 use Rattle.schedule.specs.declared.section.Lines.{Lines}
 use Rattle.schedule.specs.declared.values.Values.{Values}
 use Rattle.schedule.specs.declared.part.Part.{Part as PartFound}
@@ -97,7 +97,7 @@ pub record KnownLine (s : List ℕ) (at : ℕ) : Type 0 where
 abbrev pub valueRead : Read → Number
 valueRead r = Number.Value (r .value) (r .next)
 
-abbrev pub lineRead : Taken → Item Step
+abbrev pub lineRead : StepRead → Item Step
 lineRead t = item (t .step) (t .next)
 
 -- ---- the parts of a file

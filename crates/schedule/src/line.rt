@@ -158,7 +158,7 @@ pub(crate) struct Read {
 }
 
 // A step and the place after its line.
-pub(crate) struct Taken {
+pub(crate) struct StepRead {
     pub step: Step,
     pub next: usize,
 }
@@ -190,7 +190,7 @@ pub(crate) fn known_next(s: &[u8], at: usize, wanted: bool) -> Read
 }
 
 // The step of the line at a place, and the place after it.
-pub(crate) fn known_line(s: &[u8], at: usize) -> Taken
+pub(crate) fn known_line(s: &[u8], at: usize) -> StepRead
     requires { ⌜ KnownLine (now s) at ⌝ }
     ensures { λ r. ⌜ lineAt (now (s .entry)) at ≡ lineRead r ⌝ }
 {
@@ -206,7 +206,7 @@ pub(crate) fn known_line(s: &[u8], at: usize) -> Taken
     let cut = s[end] == 32;
     let step = step_of(letter, first, second, third, cut);
     let next = if cut { end + 3 } else { end + 1 };
-    Taken { step, next }
+    StepRead { step, next }
 }
 
 // ---- any line

@@ -3,7 +3,7 @@ ghost use mathlib.Core.Path.{_≡_};
 ghost use Rattle.schedule.specs.Line.{lineAt};
 ghost use Rattle.schedule.specs.Private.{Ahead, placeAfter, KnownLine, lineRead};
 use crate::line;
-use crate::line::Taken;
+use crate::line::StepRead;
 
 pub(crate) struct Reader<'a> {
     pub file: &'a [u8],
@@ -26,7 +26,7 @@ pub(crate) fn end_of_line<'a>(r: Reader<'a>) -> usize
 }
 
 // The step where the reader stands, and the place after its line. The line is known to keep the form.
-pub(crate) fn step<'a>(r: Reader<'a>) -> Taken
+pub(crate) fn step<'a>(r: Reader<'a>) -> StepRead
     requires { ⌜ KnownLine (now (r .file)) (r .at) ⌝ }
     ensures { λ t. ⌜ lineAt (now (r .entry .file)) (r .entry .at) ≡ lineRead t ⌝ }
 {
@@ -41,7 +41,7 @@ pub(crate) fn line_end_at(s: &[u8], at: usize) -> usize
     end_of_line(reader_at(s, at))
 }
 
-pub(crate) fn step_at(s: &[u8], at: usize) -> Taken
+pub(crate) fn step_at(s: &[u8], at: usize) -> StepRead
     requires { ⌜ KnownLine (now s) at ⌝ }
     ensures { λ t. ⌜ lineAt (now (s .entry)) at ≡ lineRead t ⌝ }
 {

@@ -31,17 +31,7 @@ pub struct Ran {
 pub(crate) fn no_run(fault: Fault) -> Ran
     ensures { λ r. ⌜ r ≡ runs.notRun fault ⌝ }
 {
-    let words = [0u32; 3 * Group::GREATEST];
-    let halves = [0u16; 3 * Group::GREATEST];
-    let bytes = [0u8; 4 * Group::GREATEST];
-    let flags = [false; 3 * Group::GREATEST];
-    let group = Group {
-        n: 0,
-        words: words,
-        halves: halves,
-        bytes: bytes,
-        flags: flags,
-    };
+    let group = Group::none();
     let warmup = Counts::none();
     let measured = Counts::none();
     Ran {

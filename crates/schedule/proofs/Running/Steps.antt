@@ -27,7 +27,7 @@ use Rattle.schedule.specs.Counts.{none, isRefused, counted, countedAll}
 use Rattle.schedule.specs.Run.{countsOf}
 use Rattle.schedule.specs.Private.{KnownLine, lineRead, StepsAt, Room, RunReady, stateWith, RanSteps, RanTo}
 use Rattle.schedule.specs.declared.counts.Counts.{Counts}
-use Rattle.schedule.specs.declared.line.Taken.{Taken}
+use Rattle.schedule.specs.declared.line.StepRead.{StepRead}
 use Rattle.schedule.proofs.Reading.InARow.{First, lines-first, lines-none, one-less, same-thing, same-place, same-things}
 
 -- ---- a step sends at most two
@@ -149,7 +149,7 @@ module _ (s : List ℕ) (at count : ℕ) where
     pub going-room : Room c
     going-room = counting-room c i (h .counting) (omega (arith, h .few))
 
-    module _ (t : Taken) (e : lineAt s here ≡ lineRead t) (a′ : State) (x : Said) (o : outcome (a′ .group) (a′ .store) (a′ .depths) x ≡ stepped (a .group) (a .store) (a .depths) (t .step)) where
+    module _ (t : StepRead) (e : lineAt s here ≡ lineRead t) (a′ : State) (x : Said) (o : outcome (a′ .group) (a′ .store) (a′ .depths) x ≡ stepped (a .group) (a .store) (a .depths) (t .step)) where
       step-is : ahead .first ≡ t .step
       step-is = same-thing (sym (ahead .is) ∙ e)
 

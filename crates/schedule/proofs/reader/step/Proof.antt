@@ -45,13 +45,13 @@ use denote.Triple.Clauses.{ensured, lasts}
 use Rattle.schedule.specs.Line.{lineAt}
 use Rattle.schedule.specs.Private.{KnownLine, lineRead}
 use Rattle.schedule.specs.Lines.{Item}
-use Rattle.schedule.specs.declared.line.Taken.{Taken}
+use Rattle.schedule.specs.declared.line.StepRead.{StepRead}
 use Rattle.schedule.specs.declared.reader.Reader.{Reader}
 use Rattle.rules.specs.declared.step.Step.{Step}
 use Rattle.schedule.proofs.reader.Reader as T
 use Rattle.schedule.proofs.reader.Reader.Laws as T′
-use Rattle.schedule.proofs.line.Taken as S
-use Rattle.schedule.proofs.line.Taken.Laws as S′
+use Rattle.schedule.proofs.line.StepRead as S
+use Rattle.schedule.proofs.line.StepRead.Laws as S′
 use Rattle.schedule.proofs.line.known_line as known-line
 use Rattle.schedule.proofs.line.known_line.Symbol as known-line-def
 use Rattle.schedule.proofs.line.known_line.Symbol.{name as #known-line}
@@ -121,10 +121,10 @@ module _ {M : Type 1} (𝓤 : URA M) (H : Heap 𝓤) (A : Atoms 𝓤) (W : Given
       move ! (2 ∷ 0 ∷ []) $ use2 W (raw (TheLine 𝓤 H A mem run .pre to)) asked $ frame ! $ done !)
 
   -- of the callee's `ensured`, the clause alone: it has no `&mut`, so what is said of last values is dropped
-  said : (r : Taken) → ent 𝓤 (ensured 𝓤 H A known-line.ended (known-line.clauses 𝓤 H A mem run) (κ, tt) (d .file, (d .at, tt)) tt r) (fact 𝓤 (found ≡ lineRead r))
+  said : (r : StepRead) → ent 𝓤 (ensured 𝓤 H A known-line.ended (known-line.clauses 𝓤 H A mem run) (κ, tt) (d .file, (d .at, tt)) tt r) (fact 𝓤 (found ≡ lineRead r))
   said r = exE 𝓤 _ (λ ws. snd∗ 𝓤 (sem 𝓤 H A (lasts known-line.ended (κ, tt) (d .file, (d .at, tt)) ws)) (fact 𝓤 (found ≡ lineRead r)))
 
-  exits : (r : Taken) (u : Val) → found ≡ lineRead r → ent 𝓤 (⋆ 𝓤 H A (‵ (S.the-row .own r (u ∷ [])) ∷ (‵ (flft κ q) ⊛ ‵ ftrue) ∷ ‵ Own ∷ [])) (Post u)
+  exits : (r : StepRead) (u : Val) → found ≡ lineRead r → ent 𝓤 (⋆ 𝓤 H A (‵ (S.the-row .own r (u ∷ [])) ∷ (‵ (flft κ q) ⊛ ‵ ftrue) ∷ ‵ Own ∷ [])) (Post u)
   exits r u e =
       qed W (‵ (S.the-row .own r (u ∷ [])) ∷ (‵ (flft κ q) ⊛ ‵ ftrue) ∷ ‵ Own ∷ []) ∵
       suffices ! _ (ends-at 𝓤 H A step.ended stayed (step.clauses 𝓤 H A mem run) W (((κ, tt), (q, tt), tt, (d, tt), (mach ∷ [], tt)), tt) u r (tt, tt) (tt, tt)) $ says ! e $
@@ -139,7 +139,7 @@ module _ {M : Type 1} (𝓤 : URA M) (H : Heap 𝓤) (A : Atoms 𝓤) (W : Given
         assigns ! (of-opd ! (load ! (from ! (fld ! refl (stop !))) (look-in ! 4 (sub ! 1 refl (whole !))))) (from ! (stop !)) (init ! 0 refl (tt, wt .1 .1 .0)) $
         move ! (8 ∷ []) $ use1 W (raw (TheLine 𝓤 H A mem run .pre to) ⊛ ‵ Own) (apart (wt .1 .1 .0 .fits)) $ split ! $
         calls-at ! fm (TheLine 𝓤 H A mem run) known to (and-then ! (load ! (from ! (stop !)) (look ! 4 refl)) (and-then ! (load ! (from ! (stop !)) (look ! 2 refl)) (no-more !))) (λ u.
-        use1 W (later (some (λ (r : Taken). ((‵ (flft κ q) ⊛ ‵ ftrue) ⊛ ‵ (S.the-row .own r (u ∷ []))) ⊛ raw (ensured 𝓤 H A known-line.ended (known-line.clauses 𝓤 H A mem run) (κ, tt) (d .file, (d .at, tt)) tt r)))) (id⊢ 𝓤 _) $ await ! tt $ pick ! (λ r.
+        use1 W (later (some (λ (r : StepRead). ((‵ (flft κ q) ⊛ ‵ ftrue) ⊛ ‵ (S.the-row .own r (u ∷ []))) ⊛ raw (ensured 𝓤 H A known-line.ended (known-line.clauses 𝓤 H A mem run) (κ, tt) (d .file, (d .at, tt)) tt r)))) (id⊢ 𝓤 _) $ await ! tt $ pick ! (λ r.
         split ! $ move ! (1 ∷ []) $ use1 W (raw (fact 𝓤 (found ≡ lineRead r))) (said r) $ heard ! (found ≡ lineRead r) (λ e. split ! $ move ! (1 ∷ []) $
         -- [the result; the token; what the struct owns; _3; …; _2; …; _1; …; room for _0; …]
         peeks ! S.the-row (Is S.the-row) (shows 𝓤 H A S.the-row) r (u ∷ []) (λ is.

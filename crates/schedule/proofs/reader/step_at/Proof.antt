@@ -40,13 +40,13 @@ use denote.Triple.Clauses.{ensured, lasts}
 use Rattle.schedule.specs.Line.{lineAt}
 use Rattle.schedule.specs.Private.{KnownLine, lineRead}
 use Rattle.schedule.specs.Lines.{Item}
-use Rattle.schedule.specs.declared.line.Taken.{Taken}
+use Rattle.schedule.specs.declared.line.StepRead.{StepRead}
 use Rattle.schedule.specs.declared.reader.Reader.{Reader}
 use Rattle.rules.specs.declared.step.Step.{Step}
 use Rattle.schedule.proofs.reader.Reader as T
 use Rattle.schedule.proofs.reader.Reader.Laws as T′
-use Rattle.schedule.proofs.line.Taken as S
-use Rattle.schedule.proofs.line.Taken.Laws as S′
+use Rattle.schedule.proofs.line.StepRead as S
+use Rattle.schedule.proofs.line.StepRead.Laws as S′
 use Rattle.schedule.proofs.reader.reader_at as new
 use Rattle.schedule.proofs.reader.reader_at.Symbol as new-def
 use Rattle.schedule.proofs.reader.reader_at.Symbol.{name as #reader-at}
@@ -121,10 +121,10 @@ module _ {M : Type 1} (𝓤 : URA M) (H : Heap 𝓤) (A : Atoms 𝓤) (W : Given
   goes-next : (r : Reader) (u : Val) → KnownLine (now (r .file)) (r .at) → ent 𝓤 (⋆ 𝓤 H A (‵ (B (κ, tt) .own r (u ∷ [])) ∷ (‵ (flft κ q) ⊛ ‵ ftrue) ∷ [])) (Next 𝓤 H A mem run .pre (to-next r u))
   goes-next r u h = qed W (‵ (B (κ, tt) .own r (u ∷ [])) ∷ (‵ (flft κ q) ⊛ ‵ ftrue) ∷ []) ∵ nothing ! $ move ! (1 ∷ 0 ∷ []) $ fjoin ! $ says ! h $ move ! (1 ∷ []) $ frame ! $ done !
 
-  next-said : (r : Reader) (t : Taken) → ent 𝓤 (ensured 𝓤 H A next.ended (next.clauses 𝓤 H A mem run) (κ, tt) (r, tt) tt t) (fact 𝓤 (lineOf (r .file) (r .at) ≡ lineRead t))
+  next-said : (r : Reader) (t : StepRead) → ent 𝓤 (ensured 𝓤 H A next.ended (next.clauses 𝓤 H A mem run) (κ, tt) (r, tt) tt t) (fact 𝓤 (lineOf (r .file) (r .at) ≡ lineRead t))
   next-said r t = exE 𝓤 _ (λ ws. snd∗ 𝓤 (sem 𝓤 H A (lasts next.ended (κ, tt) (r, tt) ws)) (fact 𝓤 (lineOf (r .file) (r .at) ≡ lineRead t)))
 
-  exits : (t : Taken) (u : Val) → found ≡ lineRead t → ent 𝓤 (⋆ 𝓤 H A (‵ (S.the-row .own t (u ∷ [])) ∷ (‵ (flft κ q) ⊛ ‵ ftrue) ∷ ‵ Own ∷ [])) (Post u)
+  exits : (t : StepRead) (u : Val) → found ≡ lineRead t → ent 𝓤 (⋆ 𝓤 H A (‵ (S.the-row .own t (u ∷ [])) ∷ (‵ (flft κ q) ⊛ ‵ ftrue) ∷ ‵ Own ∷ [])) (Post u)
   exits t u e =
       qed W (‵ (S.the-row .own t (u ∷ [])) ∷ (‵ (flft κ q) ⊛ ‵ ftrue) ∷ ‵ Own ∷ []) ∵
       suffices ! _ (ends-at 𝓤 H A first.ended stayed (first.clauses 𝓤 H A mem run) W (((κ, tt), (q, tt), tt, (s, (n, tt)), (v ∷ [], (vint w64 n ∷ [], tt))), tt) u t (tt, (tt, tt)) (tt, (tt, tt))) $ says ! e $
@@ -144,7 +144,7 @@ module _ {M : Type 1} (𝓤 : URA M) (H : Heap 𝓤) (A : Atoms 𝓤) (W : Given
         land ! (from ! (stop !)) (init ! 3 refl (LL.lawful (T.the-type αᵉ) (T′.the-laws αᵉ) 𝓤 H A W .typed r _ is .0)) $
         use2 W (raw (Next 𝓤 H A mem run .pre (to-next r u))) (goes-next r u (moved (e .0) (e .1) known-form)) $
         calls-at ! fm (Next 𝓤 H A mem run) known-next (to-next r u) (and-then ! (load ! (from ! (stop !)) (look ! 2 refl)) (no-more !)) (λ u′.
-        use1 W (later (some (λ (t : Taken). ((‵ (flft κ q) ⊛ ‵ ftrue) ⊛ ‵ (S.the-row .own t (u′ ∷ []))) ⊛ raw (ensured 𝓤 H A next.ended (next.clauses 𝓤 H A mem run) (κ, tt) (r, tt) tt t)))) (id⊢ 𝓤 _) $ await ! tt $ pick ! (λ t.
+        use1 W (later (some (λ (t : StepRead). ((‵ (flft κ q) ⊛ ‵ ftrue) ⊛ ‵ (S.the-row .own t (u′ ∷ []))) ⊛ raw (ensured 𝓤 H A next.ended (next.clauses 𝓤 H A mem run) (κ, tt) (r, tt) tt t)))) (id⊢ 𝓤 _) $ await ! tt $ pick ! (λ t.
         split ! $ move ! (1 ∷ []) $ use1 W (raw (fact 𝓤 (lineOf (r .file) (r .at) ≡ lineRead t))) (next-said r t) $ heard ! (lineOf (r .file) (r .at) ≡ lineRead t) (λ e′. split ! $ move ! (1 ∷ []) $
         -- [the result; the token; what s owns; _2; …; _1; …; room for _0; …]
         peeks ! S.the-row (Is S.the-row) (shows 𝓤 H A S.the-row) t (u′ ∷ []) (λ is′.
