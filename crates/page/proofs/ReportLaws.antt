@@ -15,7 +15,7 @@ use Rattle.rules.specs.Run.{State, startState, next, after}
 use Rattle.rules.specs.declared.group.Group.{Group}
 use Rattle.rules.specs.declared.process.Process.{Process}
 use Rattle.rules.specs.declared.step.Step.{Step}
-use Rattle.rules.proofs.Laws.Whole.{deep-step-size, deep-starting}
+use Rattle.rules.proofs.Cited.{deep-step-size, deep-starting}
 use Rattle.text.specs.Number.{pick}
 use Rattle.text.specs.Put.{Wrote}
 use Rattle.text.proofs.PutLaws.{wrote-length, wrote-same, wrote-first}

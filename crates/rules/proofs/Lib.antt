@@ -5,5 +5,6 @@ pub mod Runs
 pub mod Depths
 pub mod Theorem
 pub mod Unique
+pub mod Cited
 pub mod Table
 pub mod DepthTable

@@ -1,5 +1,5 @@
 -- Document 01, "Steps": "The first of these that holds makes the step *idle*". Assumes nothing.
-use mathlib.Core.Bool.{Bool, true, false, _&&_, _||_, not}
+use mathlib.Core.Bool.{Bool, false, _&&_, _||_, not}
 use Prim.Native.Nat.{ℕ}
 use lib.Dec.{eqb, ltb}
 use Rattle.rules.specs.declared.group.Group.{Group}

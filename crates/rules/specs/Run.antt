@@ -1,13 +1,11 @@
 -- A run: any finite list of steps from a start, with what was handed over. Assumes nothing.
 -- That refusal 6 comes "exactly when neither the start nor any earlier applied step handed that message over" is said of `handedFrom`, in Safety.
-use mathlib.Core.Bool.{Bool}
 use mathlib.Core.List.{List, [], _∷_, _++_}
 use Prim.Native.Nat.{ℕ}
 use lib.ListN.{getD}
 use Rattle.rules.specs.declared.group.Group.{Group}
 use Rattle.rules.specs.declared.process.Message.{Message}
 use Rattle.rules.specs.declared.process.Message.the-variants.{Nothing, E, S, F, Decision}
-use Rattle.rules.specs.declared.process.Next.{Next}
 use Rattle.rules.specs.declared.step.Step.{Step}
 use Rattle.rules.specs.Answers.{Outcome, Said}
 use Rattle.rules.specs.Start.{started, firstMessage}

@@ -1,5 +1,5 @@
 -- The promise of the program: what holds of every file that is read as a schedule. Assumes nothing.
-use mathlib.Core.Path.{_≡_, refl, sym, ap, subst, _∙_}
+use mathlib.Core.Path.{_≡_, refl, sym, ap, subst}
 use mathlib.Core.List.{List, [], _∷_, _++_}
 use native.Mathlib.Omega.{arith}
 use Prim.Native.Nat.{ℕ, zero, suc, _+_, _≤_, _<_, _^_}
@@ -15,8 +15,7 @@ use Rattle.rules.specs.Run.{State, next, after, answers}
 use Rattle.rules.specs.Safety.{Begins, at, Of, Holds, says, FirstValue, sumSent, recoversOf, Longest}
 use Rattle.rules.specs.declared.group.Group.{Group}
 use Rattle.rules.specs.declared.step.Step.{Step}
-use Rattle.rules.proofs.Depths.Basics.{deep-more}
-use Rattle.rules.proofs.Theorem.{safety}
+use Rattle.rules.proofs.Cited.{deep-more, safety}
 use Rattle.text.specs.Number.{most}
 use Rattle.schedule.specs.Counts.{none, isRefused, counted, countedAll}
 use Rattle.schedule.specs.Schedule.{Schedule, Reading, sound, readFile, Every, Fits}

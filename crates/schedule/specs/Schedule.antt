@@ -1,5 +1,4 @@
 -- Document 01, "The schedule file and the report": a schedule, the bytes of its file, and what is read from any file. Assumes nothing.
-use mathlib.Core.Bool.{Bool, true, false}
 use mathlib.Core.List.{List, [], _∷_, _++_}
 use Prim.Native.Nat.{ℕ, _+_, _-_, _≤_}
 use lib.Dec.{eqb, leb}
@@ -8,7 +7,7 @@ use Rattle.rules.specs.Limits.{greatestSize, among}
 use Rattle.rules.specs.declared.step.Step.{Step}
 use Rattle.schedule.specs.Limits.{longest, mostSteps}
 use Rattle.text.specs.Number.{pick, most}
-use Rattle.schedule.specs.Lines.{Items, onItems, linesAt, linesOf}
+use Rattle.schedule.specs.Lines.{onItems, linesAt, linesOf}
 use Rattle.schedule.specs.Line.{onNumber, lineAt, lineOf, Holdable}
 use Rattle.schedule.specs.Header.{headerAt, headerOf, valuesWord, warmupWord, measuredWord}
 use Rattle.schedule.specs.Values.{valueAt, valueLine}

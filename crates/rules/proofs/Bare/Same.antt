@@ -26,8 +26,7 @@ use Rattle.rules.specs.Private.{numberRows}
 use Rattle.rules.proofs.Bare.Step as base
 use Rattle.rules.proofs.Bare.Run.{forgotten}
 use Rattle.rules.proofs.Bare.Run as run
-use Rattle.rules.proofs.Laws.Store.{place-lt}
-use Rattle.rules.proofs.Laws.Sound.{Whole, Sound, facts-sound, Fine, course-fine}
+use Rattle.rules.proofs.Laws.Sound.{Whole, Sound, Fine, course-fine}
 use Rattle.rules.proofs.Laws.Passing.{deep-sound, deep-facts, facts-deep}
 use Rattle.rules.proofs.Laws.Column.{process-forgets, depth-forgets, forget-with, forget-deep}
 use Rattle.rules.proofs.Laws.Course.{numbers-refuse, held-course, taker-low, place-low}

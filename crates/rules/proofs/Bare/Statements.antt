@@ -1,6 +1,6 @@
 -- What is shown of every run without depths, as a device: `Bare/Same` carries it over to the run that the contracts cite, of which specs/Safety.antt speaks. Assumes nothing.
 use mathlib.Core.Path.{_≡_}
-use mathlib.Core.Bool.{Bool, true, false, _&&_, not}
+use mathlib.Core.Bool.{Bool, true, false, _&&_}
 use mathlib.Core.List.{List, [], _∷_}
 use mathlib.Core.Logic.{_↔_, _≢_}
 use Prim.Native.Nat.{ℕ, _+_, _-_, _≤_, _<_}
@@ -9,7 +9,7 @@ use lib.Dec.{eqb}
 use lib.ListN.{length, getD}
 use Rattle.rules.specs.declared.process.Process.{Process}
 use Rattle.rules.specs.declared.step.Step.{Step}
-use Rattle.rules.specs.declared.step.Step.the-variants.{DeliverE, DeliverS, DeliverF, DeliverDecision, Suspect, Pause, Crash, Recover}
+use Rattle.rules.specs.declared.step.Step.the-variants.{DeliverE, DeliverS, DeliverF, Pause, Crash, Recover}
 use Rattle.rules.specs.Limits.{greatestSize, values, mostRecoveries, storeLength}
 use Rattle.rules.specs.Tally.{joined, bitOf}
 use Rattle.rules.specs.Layout.{processAt}

@@ -1,13 +1,12 @@
 -- A run with depths: with the depths forgotten it is the run of before; and no depth is above the number of sent entries. Assumes nothing.
 use mathlib.Core.Path.{_≡_, refl, sym, ap, ap₂, subst, _∙_}
-use mathlib.Core.Bool.{Bool, true, false, _&&_, not}
+use mathlib.Core.Bool.{Bool, true, false}
 use mathlib.Core.List.{List, [], _∷_, _++_}
 use mathlib.Core.Logic.{_≢_}
 use Prim.Native.Nat.{ℕ, zero, suc, _+_, _≤_, _<_}
 use native.Mathlib.Decide.{ℕ-discrete}
 use native.Mathlib.Nat.{le-trans}
 use native.Mathlib.Omega.{arith}
-use lib.Dec.{ltb}
 use lib.ListN.{length, getD, set}
 use borrow.Author.Tests.{le-ltb}
 use Rattle.rules.specs.declared.group.Group.{Group}
@@ -17,19 +16,18 @@ use Rattle.rules.specs.declared.process.Next.{Next}
 use Rattle.rules.specs.declared.step.Step.{Step}
 use Rattle.rules.specs.Layout.{forgetting}
 use Rattle.rules.specs.Depths.{deliveredDepth, raises, raised, depthAfter, dated, datedBoth}
-use Rattle.rules.specs.Refusals.{row, every, short, miscounted, strange, late, damaged, tooDeep, refusal, startRefusal}
-use Rattle.rules.specs.Answers.{Said, saysApplied}
+use Rattle.rules.specs.Refusals.{row, short, miscounted, strange, refusal, startRefusal}
+use Rattle.rules.specs.Answers.{Said}
 use Rattle.rules.specs.Start.{startedTo, firstMessage, opened, openedDepths, unlessRefusedStart, started}
-use Rattle.rules.specs.Step.{Course, Idles, Refuses, Takes, idles, orIdle, unlessRefused, handOvers, sentBy, decidesNow, course, settled, stepped, Ready}
+use Rattle.rules.specs.Step.{Course, Idles, Refuses, Takes, handOvers, sentBy, course, settled, stepped}
 use Rattle.rules.specs.Run.{State, stateOf, startState, next, after, answers}
 use Rattle.rules.specs.Safety.{Begins, at, processDepth, messageDepth, says, SoundGroup, NeverDamaged, WithinLimits, DepthsChangeNothing, DepthsFit}
 use Rattle.rules.proofs.Bare.Run.{State as Bare, forgotten}
-use Rattle.rules.proofs.Bare.Step.{refusalBy, startRefusalBy, begun}
-use Rattle.rules.specs.Limits.{greatestSize, storeLength, deepestMessage, among}
-use Rattle.rules.specs.Layout.{processAt, withProcess, depthAt, withDepth, Sized}
+use Rattle.rules.proofs.Bare.Step.{begun}
+use Rattle.rules.specs.Limits.{greatestSize, storeLength}
+use Rattle.rules.specs.Layout.{withProcess, depthAt, withDepth, Sized}
 use Rattle.rules.specs.Store.{placeOf, handOver, turned, cleared, sentIn}
-use Rattle.rules.specs.Kinds.{takerOf, numbersOf, delivers, slotOf, isCut, eventOf}
-use Rattle.rules.specs.Idle.{idle}
+use Rattle.rules.specs.Kinds.{takerOf, slotOf}
 use Rattle.rules.proofs.Bare.Step as base
 use Rattle.rules.specs.Private.{numberRows}
 use Rattle.rules.proofs.Bare.Run as run
@@ -39,10 +37,10 @@ use Rattle.rules.proofs.Bare.Same as same
 use Rattle.rules.proofs.Laws.Store.{place-lt, own, other, opened-sent, cleared-length, cleared-below, cleared-past}
 use Rattle.rules.proofs.Laws.Row.{among-in}
 use Rattle.rules.proofs.Laws.Group.{sized-with, sized-started, started-size}
-use Rattle.rules.proofs.Laws.Sound.{Whole, Sound, sound-facts, Fine, course-fine, overs-sent}
-use Rattle.rules.proofs.Laws.Passing.{facts-deep, deep-sound, course-takes, dating, dated-length, dated-other}
-use Rattle.rules.proofs.Laws.Column.{depth-put, depth-kept, sized-deep, depth-with, process-forgets, depth-forgets, forget-with, forget-deep, forget-started, depth-started}
-use Rattle.rules.proofs.Laws.Course.{numbers-refuse, held-course, taker-low, place-low}
+use Rattle.rules.proofs.Laws.Sound.{Whole, Sound, sound-facts, Fine, overs-sent}
+use Rattle.rules.proofs.Laws.Passing.{facts-deep, course-takes, dating, dated-length, dated-other}
+use Rattle.rules.proofs.Laws.Column.{depth-put, depth-kept, sized-deep, depth-with, process-forgets, forget-started, depth-started}
+use Rattle.rules.proofs.Laws.Course.{taker-low, place-low}
 use Rattle.rules.proofs.Runs.Basics.{Basic, basic, basic-start, basic-next, start-is}
 use Rattle.rules.proofs.Runs.Sound.{never-two-nor-eleven}
 

@@ -10,29 +10,25 @@ use native.Mathlib.Omega.{arith}
 use lib.Dec.{eqb}
 use lib.ListN.{length, getD}
 use borrow.Author.Tests.{eqb-false}
-use Rattle.rules.specs.declared.group.Group.{Group}
-use Rattle.rules.specs.declared.process.Process.{Process}
 use Rattle.rules.specs.declared.step.Step.{Step}
-use Rattle.rules.specs.declared.step.Step.the-variants.{DeliverE, DeliverS, DeliverF, DeliverDecision, Suspect, Pause, Crash, Recover}
 use Rattle.rules.specs.Depths.{depthAfter}
 use Rattle.rules.specs.Refusals.{unsent}
 use Rattle.rules.specs.Step.{Course, settled, stepped}
 use Rattle.rules.specs.Run.{State, startState, next, after}
 use Rattle.rules.specs.Safety.{Of, Begins, at, processDepth, messageDepth, says, senderOf, Link, Chain, Ends, DepthIsLongest}
 use Rattle.rules.proofs.Bare.Step.{begun}
-use Rattle.rules.specs.Limits.{greatestSize, storeLength}
-use Rattle.rules.specs.Layout.{Sized}
+use Rattle.rules.specs.Limits.{storeLength}
 use Rattle.rules.specs.Store.{sentIn}
 use Rattle.rules.specs.Kinds.{takerOf, delivers, slotOf, entryIn}
-use Rattle.rules.specs.Idle.{idleE, idleS, idleF, idle}
+use Rattle.rules.specs.Idle.{idle}
 use Rattle.rules.specs.Safety.Chain.{one, more}
 use Rattle.rules.proofs.Laws.Store.{opened-sent}
 use Rattle.rules.proofs.Laws.Sound.{taker-in}
 use Rattle.rules.proofs.Laws.Passing.{DeepPassed}
-use Rattle.rules.proofs.Laws.Column.{process-forgets, depth-started}
+use Rattle.rules.proofs.Laws.Column.{depth-started}
 use Rattle.rules.proofs.Runs.Cases.{never}
 use Rattle.rules.proofs.Runs.Handing.{Addresses, address-lt, addressed}
-use Rattle.rules.proofs.Depths.Basics.{DeepBasic, deep-size, deep-few, says-forgets, deep-next, start-deep, deep-start, deep-throughout, deep-basic, deep-more, run-forgets}
+use Rattle.rules.proofs.Depths.Basics.{DeepBasic, deep-size, deep-few, deep-next, start-deep, deep-start, deep-throughout, deep-basic, deep-more}
 use Rattle.rules.proofs.Depths.Steps.{deep-by, depth-heard, depth-unheard, message-kept, message-new, handed-sender, sent-after}
 
 -- ---- an applied step

@@ -25,7 +25,7 @@ use Rattle.rules.specs.Start.{fresh}
 use Rattle.rules.specs.Step.{Course, Idles, Refuses, Takes, idles, orIdle, unlessRefused, handOvers, course, settled, stepped}
 use Rattle.rules.specs.Run.{State, stateOf, startState, next, after}
 use Rattle.rules.specs.Safety.{Begins, at, processDepth, messageDepth, processOf, says, DecisionDepthStays, isSuspicion, plain, deliversE, takesE, senderOf, ledBy, TwoSteps}
-use Rattle.rules.proofs.Bare.Run.{State as Bare, forgotten}
+use Rattle.rules.proofs.Bare.Run.{State as Bare}
 use Rattle.rules.proofs.Bare.Step.{begun}
 use Rattle.rules.specs.Limits.{greatestSize, lastRound, storeLength, coordinator, among}
 use Rattle.rules.specs.Tally.{bitOf, count, holds, joined, meets}
@@ -34,7 +34,6 @@ use Rattle.rules.specs.Store.{slot, kindE, kindS, kindF, proposerOf, val
 use Rattle.rules.specs.Events.{takes, joinsEstimates, decides, marks, paused, crashed, recovered, quiet, changed, jumpsIf, jumps, relaysIf, relays, decidesIf, decidesAt, onE, onDecision, onSuspect, onPause, onCrash, onRecover, cutIf}
 use Rattle.rules.specs.Kinds.{takerOf, numbersOf, roundOf, delivers, slotOf, isCut, entryIn, eventOf}
 use Rattle.rules.specs.Idle.{pastFor, idleE, idleS, idleF, idle}
-use Rattle.rules.proofs.Bare.Step as base
 use Rattle.rules.proofs.Bare.Run as run
 use Rattle.rules.proofs.Laws.Bool.{and-left, and-right, and-both, or-case, or-left}
 use Rattle.rules.proofs.Laws.Tally.{holds-joined, holds-other, holds-empty, meets-count, joined-below}

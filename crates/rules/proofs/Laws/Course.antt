@@ -1,8 +1,8 @@
 -- The refusals of a step, once 11, the short 14 and the group's 2 are ruled out, as the parts that the code tests, and the course that follows. Assumes nothing.
-use mathlib.Core.Path.{_≡_, refl, sym, ap, ap₂, _∙_}
+use mathlib.Core.Path.{_≡_, refl, sym, ap, _∙_}
 use mathlib.Core.Bool.{Bool, true, false, _&&_, not}
 use mathlib.Core.List.{List}
-use Prim.Native.Nat.{ℕ, zero, suc, _+_, _≤_, _<_}
+use Prim.Native.Nat.{ℕ, zero, suc, _≤_, _<_}
 use native.Mathlib.Nat.{le-trans}
 use native.Mathlib.Omega.{arith}
 use lib.Dec.{eqb, ltb}
@@ -18,7 +18,7 @@ use Rattle.rules.specs.declared.step.Step.the-variants.{DeliverE, Delive
 use Rattle.rules.specs.declared.course.Address.the-variants.{Misses, At}
 use Rattle.rules.specs.Limits.{greatestSize, lastRound, tooMany, storeLength, among}
 use Rattle.rules.specs.Layout.{processAt, withProcess, withDepth}
-use Rattle.rules.specs.Store.{proposerOf, placeOf, handOver, turned}
+use Rattle.rules.specs.Store.{proposerOf, placeOf, turned}
 use Rattle.rules.specs.Depths.{deliveredDepth, depthAfter, datedBoth}
 use Rattle.rules.specs.Refusals.{row, every, short, strange, late, isRecover, down, unsent, misnamed, maySuspect, impossible, recoversPast, entersPast, damaged, tooDeep}
 use Rattle.rules.specs.Refusals.{refusal}
@@ -29,7 +29,7 @@ use Rattle.rules.specs.Events.{cutIf}
 use Rattle.rules.specs.Kinds.{takerOf, numbersOf, roundOf, delivers, slotOf, isCut, entryIn, eventOf}
 use Rattle.rules.specs.Idle.{idle}
 use Rattle.rules.specs.Private.{numberRows, unlessMissed, addressOf, heldRows, unlessPast, orPast, orImpossible, orUp, lastCourse, unlessHeld, heldCourse, Numbered, Handable, HandsOverBoth}
-use Rattle.rules.proofs.Laws.Row.{orElse, number-else, held-else, Delivered, delivered-zero, owned-zero, held-zero, among-in}
+use Rattle.rules.proofs.Laws.Row.{orElse, number-else, held-else, delivered-zero, owned-zero, held-zero}
 use Rattle.rules.proofs.Laws.Step.{up-yes, up-many, up-no}
 use Rattle.rules.proofs.Laws.Sound.{sound-facts}
 use Rattle.rules.proofs.Laws.Passing.{deep-sound, course-takes}

@@ -18,7 +18,7 @@ use Rattle.rules.specs.declared.step.Step.{Step}
 use Rattle.rules.specs.declared.step.Step.the-variants.{DeliverE, DeliverS, DeliverF, DeliverDecision, Suspect, Pause, Crash, Recover}
 use Rattle.rules.specs.Limits.{greatestSize, lastRound, storeLength, deepestMessage, deepestProcess}
 use Rattle.rules.specs.Layout.{processAt, depthAt}
-use Rattle.rules.specs.Store.{placeOf, entryFor, messageRound, handOver, turned}
+use Rattle.rules.specs.Store.{placeOf, messageRound, handOver, turned}
 use Rattle.rules.specs.Tally.{bitOf}
 use Rattle.rules.specs.Kinds.{takerOf, delivers, entryIn}
 use Rattle.rules.specs.Idle.{idle, idleE, idleS, idleF}

@@ -1,6 +1,6 @@
 -- What is shown of the run without depths holds of the run that start and step make: each statement is carried over. Assumes nothing.
 use mathlib.Core.Path.{_≡_, refl, sym, ap, ap₂, subst, _∙_}
-use mathlib.Core.Bool.{Bool, true, false, _&&_, not}
+use mathlib.Core.Bool.{Bool, _&&_, not}
 use mathlib.Core.List.{List, [], _∷_, _++_}
 use mathlib.Core.Logic.{_↔_, _≢_}
 use Prim.Native.Nat.{ℕ, _+_, _≤_, _<_}
@@ -19,10 +19,9 @@ use Rattle.rules.specs.Records.{stored, blank}
 use Rattle.rules.specs.Store.{kindE, kindS, kindF, proposerOf, sentIn}
 use Rattle.rules.specs.Kinds.{takerOf}
 use Rattle.rules.specs.Refusals.{strange, isRecover, down}
-use Rattle.rules.specs.Step.{Course}
-use Rattle.rules.specs.Run.{State, startState, next, after, answers, Handed, handed, handedByCourse, handedBy, handedIn, handedFrom}
+use Rattle.rules.specs.Run.{State, startState, next, after, Handed, handed, handedByCourse, handedBy, handedIn, handedFrom}
 use Rattle.rules.specs.Start.{firstMessage}
-use Rattle.rules.specs.Safety.{Begins, at, Of, processOf, Holds, says, refusalAt, Agreement, Validity, FirstValuesStay, DecisionsStay, DownThrough, cut, back}
+use Rattle.rules.specs.Safety.{Begins, at, Of, processOf, Holds, refusalAt, Agreement, Validity, FirstValuesStay, DecisionsStay, DownThrough, cut, back}
 use Rattle.rules.specs.Safety.{Recovery, DownKeeps, GoingDownKeeps, CutStores, Among, Comes, RefusalSix, sumSent, PastKept, SentCounts, SoundEntries}
 use Rattle.rules.specs.Safety.{TalliesFit, Heard, TalliesHeard, Majority, estimatesWith, DecidesWithMajority, Phase2WithMajority, NextRoundWithMajority}
 use Rattle.rules.specs.Safety.{recoversOf, RecoveriesCounted, RecoveriesFit, RefusalThirteen}

@@ -13,7 +13,7 @@ use lib.Seq.{take-suc-set, length-take-le}
 use borrow.Author.Tests.{eq-eqb, ne-eqb, le-leb, lt-leb}
 use Rattle.rules.specs.Limits.{greatestSize, among}
 use Rattle.rules.specs.declared.step.Step.{Step}
-use Rattle.rules.proofs.Laws.Row.{among-in}
+use Rattle.rules.proofs.Cited.{among-in}
 use Rattle.schedule.specs.Limits.{longest, mostSteps}
 use Rattle.text.specs.Number.{numberAt}
 use Rattle.schedule.specs.Lines.{Item, broken, item, onItem, Items, brokenAt, items, before, linesAt}

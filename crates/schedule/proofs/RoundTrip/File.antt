@@ -12,7 +12,7 @@ use lib.Seq.{drop-length}
 use borrow.Author.Tests.{le-leb, leb-true, eq-eqb, eqb-true}
 use Rattle.rules.specs.Limits.{greatestSize, among}
 use Rattle.rules.specs.declared.step.Step.{Step}
-use Rattle.rules.proofs.Laws.Row.{among-true, among-in}
+use Rattle.rules.proofs.Cited.{among-true, among-in}
 use Rattle.schedule.specs.Limits.{longest, mostSteps}
 use Rattle.text.specs.Number.{pick, most}
 use Rattle.text.specs.Stands.{Stands}

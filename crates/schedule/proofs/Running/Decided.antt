@@ -18,12 +18,7 @@ use Rattle.rules.specs.Safety.{Begins, at, processOf, says}
 use Rattle.rules.specs.declared.group.Group.{Group}
 use Rattle.rules.specs.declared.process.Process.{Process}
 use Rattle.rules.specs.declared.step.Step.{Step}
-use Rattle.rules.proofs.Laws.Count.{count-ext, count-none}
-use Rattle.rules.proofs.Laws.Group.{process-put, process-kept, with-size, started-process, started-size}
-use Rattle.rules.proofs.Laws.Sound.{Fine}
-use Rattle.rules.proofs.Laws.Column.{process-deep}
-use Rattle.rules.proofs.Depths.Basics.{DeepBasic, deep-size, deep-fine, start-deep, deep-basic, deep-more}
-use Rattle.rules.proofs.Theorem.{safety}
+use Rattle.rules.proofs.Cited.{count-ext, count-none, process-put, process-kept, with-size, started-process, started-size, Fine, process-deep, DeepBasic, deep-size, deep-fine, start-deep, deep-basic, deep-more, safety}
 use Rattle.schedule.specs.Counts.{counted, countedAll}
 use Rattle.schedule.specs.Promise.{decidedIn}
 use Rattle.schedule.specs.declared.counts.Counts.{Counts}

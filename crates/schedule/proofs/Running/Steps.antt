@@ -19,7 +19,7 @@ use Rattle.rules.specs.declared.process.Message.{Message}
 use Rattle.rules.specs.declared.process.Message.the-variants.{Nothing, E, S, F, Decision}
 use Rattle.rules.specs.declared.process.Next.{Next}
 use Rattle.rules.specs.declared.step.Step.{Step}
-use Rattle.rules.proofs.Laws.Whole.{deep-sound-step, deep-sized-step, deep-step-length, depths-step-length}
+use Rattle.rules.proofs.Cited.{deep-sound-step, deep-sized-step, deep-step-length, depths-step-length}
 use Rattle.schedule.specs.Limits.{mostSteps}
 use Rattle.schedule.specs.Lines.{items, linesAt}
 use Rattle.schedule.specs.Line.{lineAt}

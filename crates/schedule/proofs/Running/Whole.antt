@@ -17,9 +17,7 @@ use Rattle.rules.specs.Step.{stepped, Ready}
 use Rattle.rules.specs.Run.{State, stateOf, startState, next, after, answers}
 use Rattle.rules.specs.declared.group.Group.{Group}
 use Rattle.rules.specs.declared.step.Step.{Step}
-use Rattle.rules.proofs.Laws.Bool.{or-left, or-right}
-use Rattle.rules.proofs.Laws.Row.{among-in}
-use Rattle.rules.proofs.Laws.Whole.{deep-keeps, deep-sound-step, deep-sized-step, deep-step-length, depths-step-length, Starting, deep-starting}
+use Rattle.rules.proofs.Cited.{or-left, or-right, among-in, deep-keeps, deep-sound-step, deep-sized-step, deep-step-length, depths-step-length, Starting, deep-starting}
 use Rattle.schedule.specs.Counts.{none, counted, countedAll, refusedAll}
 use Rattle.schedule.specs.Schedule.{Schedule, Reading, faulty, sound, readFile, Fits, noFault}
 use Rattle.schedule.specs.Run.{countsOf, hasRun, notRun, runBy, runOf, begins, between}

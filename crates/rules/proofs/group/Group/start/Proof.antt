@@ -4,7 +4,7 @@ use Rattle.rules.specs.Refusals.{startRefusal, short, miscounted}
 use Rattle.rules.specs.Answers.{outcome, said, saysApplied, saysRefused}
 use Rattle.rules.specs.Start.{startedTo, opened, openedDepths, unlessRefusedStart, started}
 use Rattle.rules.specs.Layout.{groupOf, blankGroup}
-use Rattle.rules.specs.Limits.{greatestSize, storeLength, among}
+use Rattle.rules.specs.Limits.{greatestSize, storeLength}
 use Rattle.rules.specs.declared.group.Group.{Group}
 use borrow.Author.Tests.{ltb-false, not-false}
 use lib.ListN.{length, getD}
