@@ -20,7 +20,7 @@ use Rattle.rules.specs.Start.{fresh, startedTo, opened, openedDepths, un
 use Rattle.rules.specs.Step.{idles, orIdle, unlessRefused, course, handOvers, sentBy, decidesNow, settled, stepped}
 use Rattle.rules.specs.Run.{startState, next, after}
 use Rattle.rules.specs.Safety.{isSuspicion, plain, deliversE, senderOf, ledBy}
-use Rattle.rules.specs.DepthTable.{allDeep, allDated, ends, holdsFrom, depthsHold, goodRun, relayFirst, coordinatorCrashes, cutKeeps, depthTable}
+use Rattle.rules.specs.DepthTable.{allDeep, allAtDepth, ends, holdsFrom, depthsHold, goodRun, relayFirst, coordinatorCrashes, cutKeeps, depthTable}
 
 -- the single statement
 pub depths-hold : depthsHold depthTable ≡ true
@@ -40,5 +40,5 @@ unfolding ones
     fresh startedTo opened openedDepths unlessRefusedStart started
     idles orIdle unlessRefused course handOvers sentBy decidesNow settled stepped
     startState next after isSuspicion plain deliversE senderOf ledBy
-    allDeep allDated ends holdsFrom depthsHold goodRun relayFirst coordinatorCrashes cutKeeps depthTable
+    allDeep allAtDepth ends holdsFrom depthsHold goodRun relayFirst coordinatorCrashes cutKeeps depthTable
 depths-hold = refl

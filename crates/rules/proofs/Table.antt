@@ -16,15 +16,16 @@ use Rattle.rules.specs.Idle.{pastFor, inPhase, idleE, idleS, idleF, idle
 use Rattle.rules.specs.Depths.{deliveredDepth, raises, raised, depthAfter, datedIf, dated, datedBoth}
 use Rattle.rules.specs.Refusals.{row, allOf, every, short, miscounted, whole, damaged, strange, late, isRecover, down, unsent}
 use Rattle.rules.specs.Refusals.{misnamed, tooDeep, maySuspect, impossible, recoversPast, entersPast, startRefusal, refusal}
+use Rattle.rules.specs.Answers.{total}
 use Rattle.rules.specs.Start.{fresh, startedTo, opened, openedDepths, unlessRefusedStart, started}
 use Rattle.rules.specs.Step.{idles, orIdle, unlessRefused, course, handOvers, sentBy, decidesNow, settled, stepped}
-use Rattle.rules.specs.Run.{startState, one, handedByCourse, handedBy}
+use Rattle.rules.specs.Run.{startState, next, after, answers, one, handedByCourse, handedBy}
 use Rattle.rules.specs.Table.{sameSaid, looks, looksIn, allLook, allStand, sameHanded, answered, goesOn, holdsOne, holdsAll, runAbove, oneDecides}
 use Rattle.rules.specs.Table.{oneEntersRound1, repeatIsIdle, suspectTwice, crashTwice, recoverWhileUp, refusedOfSixteen, seventeenth}
-use Rattle.rules.specs.Table.{round64, round63, fiveProcesses, relayedAgain, pauseKeepsTallies, comesBack, comesBackFromACut, table}
+use Rattle.rules.specs.Table.{round64, round63, fiveProcesses, relayedAgain, pauseKeepsTallies, comesBack, comesBackFromACut, table, sameNumbers, stepsOf, addUp, sectionsAbove, tableHolds}
 
 -- the single statement
-pub table-holds : holdsAll table ≡ true
+pub table-holds : tableHolds ≡ true
 unfolding ones
     holds joined meets within
     processAt withProcess depthIn depthAt withDepth blankGroup
@@ -40,8 +41,8 @@ unfolding ones
     misnamed tooDeep maySuspect impossible recoversPast entersPast startRefusal refusal
     fresh startedTo opened openedDepths unlessRefusedStart started
     idles orIdle unlessRefused course handOvers sentBy decidesNow settled stepped
-    startState one handedByCourse handedBy
+    total startState next after answers one handedByCourse handedBy
     sameSaid looks looksIn allLook allStand sameHanded answered goesOn holdsOne holdsAll runAbove oneDecides
     oneEntersRound1 repeatIsIdle suspectTwice crashTwice recoverWhileUp refusedOfSixteen seventeenth
-    round64 round63 fiveProcesses relayedAgain pauseKeepsTallies comesBack comesBackFromACut table
+    round64 round63 fiveProcesses relayedAgain pauseKeepsTallies comesBack comesBackFromACut table sameNumbers stepsOf addUp sectionsAbove tableHolds
 table-holds = refl

@@ -1,7 +1,7 @@
 -- Document 01, "Steps" and "Refusals": what a step answers, and its whole outcome. Assumes nothing.
-use mathlib.Core.Bool.{Bool, true, false}
-use mathlib.Core.List.{List}
-use Prim.Native.Nat.{ℕ}
+use mathlib.Core.Bool.{Bool, true, false, _&&_, not}
+use mathlib.Core.List.{List, [], _∷_}
+use Prim.Native.Nat.{ℕ, _+_}
 use Rattle.rules.specs.declared.group.Group.{Group}
 use Rattle.rules.specs.declared.step.Answer.{Answer}
 use Rattle.rules.specs.declared.step.Answer.the-variants.{Idle, Applied, Refused}
@@ -28,6 +28,18 @@ unfoldable pub said : Answer → Said
 said Idle = saysIdle
 said (Applied sent decided) = saysApplied sent decided
 said (Refused k) = saysRefused k
+
+-- neither applied nor idle
+abbrev pub isRefused : Said → Bool
+isRefused a = not (a .applied) && not (a .idle)
+
+-- what a list of answers adds up to, where each counts as much as f says; and all *sent*
+unfoldable pub total : (Said → ℕ) → List Said → ℕ
+total f [] = 0
+total f (a ∷ as′) = f a + total f as′
+
+abbrev pub allSent : List Said → ℕ
+allSent as′ = total (λ a. a .sent) as′
 
 -- all that a start or a step yields: the group, the content of both stores, and what is said
 pub record Outcome : Type 0 where

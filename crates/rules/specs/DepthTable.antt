@@ -23,19 +23,19 @@ decidesAt i k = record { process = i; decided = true; depth = k }
 abbrev pub waitsAt : ℕ → ℕ → Deep
 waitsAt i k = record { process = i; decided = false; depth = k }
 
-pub record Dated : Type 0 where
+pub record AtDepth : Type 0 where
   pub place : ℕ
   pub depth : ℕ
 
-abbrev pub dated : ℕ → ℕ → Dated
-dated q k = record { place = q; depth = k }
+abbrev pub atDepth : ℕ → ℕ → AtDepth
+atDepth q k = record { place = q; depth = k }
 
 -- a run: its steps, and whether they keep what statement 13 asks, no suspicion and no cut, and each process's first E of process 1; then what it must end with
 pub record DepthRow : Type 0 where
   pub steps : List Step
   pub asked : Bool
   pub processes : List Deep
-  pub messages : List Dated
+  pub messages : List AtDepth
 
 -- ---- that it holds
 
@@ -43,12 +43,12 @@ unfoldable pub allDeep : State → List Deep → Bool
 allDeep a [] = true
 allDeep a (x ∷ xs) = (Bool·beq (processOf a (x .process) .decided) (x .decided) && eqb (processDepth a (x .process)) (x .depth)) && allDeep a xs
 
-unfoldable pub allDated : State → List Dated → Bool
-allDated a [] = true
-allDated a (x ∷ xs) = eqb (messageDepth a (x .place)) (x .depth) && allDated a xs
+unfoldable pub allAtDepth : State → List AtDepth → Bool
+allAtDepth a [] = true
+allAtDepth a (x ∷ xs) = eqb (messageDepth a (x .place)) (x .depth) && allAtDepth a xs
 
 unfoldable pub ends : State → DepthRow → Bool
-ends a r = allDeep a (r .processes) && allDated a (r .messages)
+ends a r = allDeep a (r .processes) && allAtDepth a (r .messages)
 
 -- from the start a on
 unfoldable pub holdsFrom : State → DepthRow → Bool
@@ -68,7 +68,7 @@ goodRun =
           DeliverE 1 1 0 false ∷ DeliverE 2 1 0 false ∷ DeliverE 3 1 0 false ∷ DeliverE 1 2 0 false ∷ DeliverE 2 2 0 false ∷ DeliverE 3 2 0 false ∷ [];
       asked = true;
       processes = decidesAt 1 2 ∷ decidesAt 2 2 ∷ decidesAt 3 2 ∷ [];
-      messages = dated 0 0 ∷ dated 3 1 ∷ dated 6 1 ∷ dated 3072 2 ∷ dated 3073 2 ∷ dated 3074 2 ∷ [];
+      messages = atDepth 0 0 ∷ atDepth 3 1 ∷ atDepth 6 1 ∷ atDepth 3072 2 ∷ atDepth 3073 2 ∷ atDepth 3074 2 ∷ [];
     }
 
 -- process 3 hears the relay of process 2 before process 1's own E, and decides at 3
@@ -78,7 +78,7 @@ relayFirst =
       steps = DeliverE 2 1 0 false ∷ DeliverE 3 2 0 false ∷ DeliverE 3 3 0 false ∷ [];
       asked = false;
       processes = waitsAt 1 0 ∷ waitsAt 2 1 ∷ decidesAt 3 3 ∷ [];
-      messages = dated 3 1 ∷ dated 6 2 ∷ dated 3074 3 ∷ [];
+      messages = atDepth 3 1 ∷ atDepth 6 2 ∷ atDepth 3074 3 ∷ [];
     }
 
 -- process 1 crashes, and the two others suspect it: S has 0, F 1, the E of round 1 2 and its relay 3. They decide at 4, and process 1, which recovers and hears a decision, at 5
@@ -104,7 +104,7 @@ coordinatorCrashes =
           ∷ [];
       asked = false;
       processes = decidesAt 1 5 ∷ decidesAt 2 4 ∷ decidesAt 3 4 ∷ [];
-      messages = dated 4 0 ∷ dated 5 1 ∷ dated 51 2 ∷ dated 54 3 ∷ dated 3073 4 ∷ dated 3072 5 ∷ [];
+      messages = atDepth 4 0 ∷ atDepth 5 1 ∷ atDepth 51 2 ∷ atDepth 54 3 ∷ atDepth 3073 4 ∷ atDepth 3072 5 ∷ [];
     }
 
 -- a cut keeps the depth and hands nothing over; back, process 2 hears process 1's E again, which is no more than it has, and its relay gets that depth
@@ -114,7 +114,7 @@ cutKeeps =
       steps = DeliverE 3 1 0 false ∷ DeliverE 2 3 0 true ∷ Recover 2 ∷ DeliverE 2 1 0 false ∷ [];
       asked = false;
       processes = waitsAt 2 2 ∷ waitsAt 3 1 ∷ [];
-      messages = dated 3 2 ∷ dated 6 1 ∷ [];
+      messages = atDepth 3 2 ∷ atDepth 6 1 ∷ [];
     }
 
 unfoldable pub depthTable : List DepthRow

@@ -17,7 +17,7 @@ use Rattle.rules.specs.Tally.{holds, joined, within, bitOf}
 use Rattle.rules.specs.Layout.{processAt, depthAt, Sized, forgetting}
 use Rattle.rules.specs.Records.{Stored, stored, blank}
 use Rattle.rules.specs.Store.{slot, kindE, kindS, kindF, proposerOf, sentIn}
-use Rattle.rules.specs.Answers.{Said}
+use Rattle.rules.specs.Answers.{Said, allSent}
 use Rattle.rules.specs.Kinds.{takerOf, delivers, isCut, entryIn}
 use Rattle.rules.specs.Idle.{inPhase, idle}
 use Rattle.rules.specs.Refusals.{strange, late, isRecover, down, refusal}
@@ -183,10 +183,6 @@ RefusalSix = EveryRun λ vs l d ss. (s : Step) → Comes (at vs l d ss .group) s
 
 -- ---- 6: the stores
 
-unfoldable pub sumSent : List Said → ℕ
-sumSent [] = 0
-sumSent (a ∷ as′) = a .sent + sumSent as′
-
 -- an entry once sent stays sent, and its message keeps its depth: "Later handings over keep the first depth."
 abbrev pub SentStays : Type 0
 SentStays = EveryRun λ vs l d ss. (ts : List Step) (k : ℕ) → k < storeLength → getD (at vs l d ss .store) k 0 ≢ 0
@@ -199,7 +195,7 @@ PastKept = EveryRun λ vs l d ss. (k : ℕ) → storeLength ≤ k
 
 -- the sent entries number 1 and the sum of *sent* over all steps
 abbrev pub SentCounts : Type 0
-SentCounts = EveryRun λ vs l d ss. sentIn (at vs l d ss .store) storeLength ≡ 1 + sumSent (answers (startState vs l d) ss)
+SentCounts = EveryRun λ vs l d ss. sentIn (at vs l d ss .store) storeLength ≡ 1 + allSent (answers (startState vs l d) ss)
 
 -- records above n are as start left them, and their depths are 0
 abbrev pub AboveKept : Type 0

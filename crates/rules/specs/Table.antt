@@ -1,20 +1,21 @@
--- Document 01, "Runs to hold it against": the runs marked (P), as one table, and two runs for request 2026-03. Its statement is `holdsAll table ≡ true`, in proofs/Table.antt. Assumes nothing.
+-- Document 01, "Runs to hold it against": the runs marked (P), as one table, and two runs for request 2026-03. Its statement is `tableHolds ≡ true`, in proofs/Table.antt. Assumes nothing.
 -- "Each run begins at a fresh start." Where the document names no values, they are 7, 9, 5 as in its example, and 0 to 15 for n = 16.
 use mathlib.Core.Bool.{Bool, true, false, _&&_, Bool·beq}
 use mathlib.Core.List.{List, [], _∷_}
 use Prim.Native.Nat.{ℕ}
 use lib.Dec.{eqb}
-use lib.ListN.{getD, replicate}
+use lib.ListN.{getD, replicate, take, drop}
 use Rattle.rules.specs.declared.group.Group.{Group}
 use Rattle.rules.specs.declared.process.Process.{Process}
 use Rattle.rules.specs.declared.step.Step.{Step}
 use Rattle.rules.specs.declared.step.Step.the-variants.{DeliverE, DeliverS, DeliverF, DeliverDecision, Suspect, Pause, Crash, Recover}
 use Rattle.rules.specs.Limits.{storeLength}
+use Rattle.rules.specs.Tally.{bitOf}
 use Rattle.rules.specs.Layout.{processAt}
 use Rattle.rules.specs.Store.{placeOf, entryFor}
-use Rattle.rules.specs.Answers.{Said, saysApplied, saysIdle, saysRefused}
+use Rattle.rules.specs.Answers.{Said, saysApplied, saysIdle, saysRefused, isRefused, total, allSent}
 use Rattle.rules.specs.Step.{stepped}
-use Rattle.rules.specs.Run.{State, stateOf, startState, Handed, handedBy}
+use Rattle.rules.specs.Run.{State, stateOf, startState, after, answers, Handed, handedBy}
 
 -- ---- a run of the table
 
@@ -79,13 +80,19 @@ abbrev pub handing : List Entry → Step → Said → Seen → Line
 handing es s a x = record { step = s; says = a; leaves = x; hands = just es }
 
 -- a run: its values and its lines; then processes and entries to look at when it has ended
-pub record Run : Type 0 where
+pub record Row : Type 0 where
   pub values : List ℕ
   pub lines : List Line
   pub processes : List Seen
   pub entries : List Entry
 
 -- ---- that it holds
+
+unfoldable pub sameNumbers : List ℕ → List ℕ → Bool
+sameNumbers [] [] = true
+sameNumbers [] (n ∷ ns) = false
+sameNumbers (m ∷ ms) [] = false
+sameNumbers (m ∷ ms) (n ∷ ns) = eqb m n && sameNumbers ms ns
 
 -- the same is said
 unfoldable pub sameSaid : Said → Said → Bool
@@ -135,19 +142,36 @@ goesOn a (x ∷ rest) xs es =
     sameSaid (o .says) (x .says)
     && (looksIn (o .group) (x .leaves) && (answered (x .hands) (handedBy a (x .step)) && goesOn (stateOf o) rest xs es))
 
-unfoldable pub holdsOne : Run → Bool
+unfoldable pub holdsOne : Row → Bool
 holdsOne r = goesOn (startState (r .values) (replicate storeLength 0) (replicate storeLength 0)) (r .lines) (r .processes) (r .entries)
 
-unfoldable pub holdsAll : List Run → Bool
+unfoldable pub holdsAll : List Row → Bool
 holdsAll [] = true
 holdsAll (r ∷ rs) = holdsOne r && holdsAll rs
 
+-- the steps of some lines
+unfoldable pub stepsOf : List Line → List Step
+stepsOf [] = []
+stepsOf (x ∷ rest) = x .step ∷ stepsOf rest
+
+-- these answers make the numbers of a section's line: "those applied, idle and refused, then sent and decided"
+unfoldable pub addUp : List Said → List ℕ → Bool
+addUp as′ ns =
+    sameNumbers
+    (total (λ a. bitOf (a .applied)) as′
+    ∷ total (λ a. bitOf (a .idle)) as′
+    ∷ total (λ a. bitOf (isRefused a)) as′
+    ∷ allSent as′
+    ∷ total (λ a. bitOf (a .decided)) as′
+    ∷ [])
+    ns
+
 -- ---- the table
 
--- "The run above; its third measured step is refusal 6." Its first line is the WARMUP section, with sent 0 and decided 0;
--- the four others are the MEASURED section: applied 3, refused 1, sent 3, decided 2. It ends with the three process lines of the report.
+-- "The run above; its third measured step is refusal 6." Its first line is the WARMUP section, the four others are the MEASURED section. It ends with the three process lines of
+-- the report.
 -- "decisions the sender and the decided value": those of 2 and 3 stand at 3,073 and 3,074, and are 2 × 2^32 + 7 and 3 × 2^32 + 7.
-unfoldable pub runAbove : Run
+unfoldable pub runAbove : Row
 runAbove =
     record {
       values = 7 ∷ 9 ∷ 5 ∷ [];
@@ -162,8 +186,16 @@ runAbove =
       entries = entryAt 3073 8_589_934_599 ∷ entryAt 3074 12_884_901_895 ∷ [];
     }
 
+-- its two section lines: `WARMUP 1 applied 1 idle 0 refused 0 sent 0 decided 0` and `MEASURED 4 applied 3 idle 0 refused 1 sent 3 decided 2`
+unfoldable pub sectionsAbove : Bool
+sectionsAbove =
+    let start = startState (runAbove .values) (replicate storeLength 0) (replicate storeLength 0) in
+    let steps = stepsOf (runAbove .lines) in
+    addUp (answers start (take 1 steps)) (1 ∷ 0 ∷ 0 ∷ 0 ∷ 0 ∷ [])
+    && addUp (answers (after start (take 1 steps)) (drop 1 steps)) (3 ∷ 0 ∷ 1 ∷ 3 ∷ 2 ∷ [])
+
 -- "n = 1, value 0: `E 1 1 0` decides 0."
-unfoldable pub oneDecides : Run
+unfoldable pub oneDecides : Row
 oneDecides =
     record {
       values = 0 ∷ [];
@@ -174,7 +206,7 @@ oneDecides =
 
 -- "n = 1: `Q 1`, `S 1 1 0`, `F 1 1 0` enters round 1 and hands over E again."
 -- The E of round 1 stands at (1×16 + 1−1)×3 + 0 = 48, and is 1 × 2^32 + 7. "phase 1, no mark": in round 1 the process can suspect again.
-unfoldable pub oneEntersRound1 : Run
+unfoldable pub oneEntersRound1 : Row
 oneEntersRound1 =
     record {
       values = 7 ∷ [];
@@ -189,7 +221,7 @@ oneEntersRound1 =
     }
 
 -- "n = 2: `E 2 1 0` then `E 2 1 0`: the second is idle, no decision."
-unfoldable pub repeatIsIdle : Run
+unfoldable pub repeatIsIdle : Row
 repeatIsIdle =
     record {
       values = 7 ∷ 9 ∷ [];
@@ -203,7 +235,7 @@ repeatIsIdle =
 
 -- "n = 3, each from a start: `Q 2` twice: second is 7." "Suspicions have the sender as proposer and value 0":
 -- the S of 2 stands at (0×16 + 2−1)×3 + 1 = 4, and is 2 × 2^32.
-unfoldable pub suspectTwice : Run
+unfoldable pub suspectTwice : Row
 suspectTwice =
     record {
       values = 7 ∷ 9 ∷ 5 ∷ [];
@@ -216,7 +248,7 @@ suspectTwice =
     }
 
 -- "`C 2` twice: second is 5."
-unfoldable pub crashTwice : Run
+unfoldable pub crashTwice : Row
 crashTwice =
     record {
       values = 7 ∷ 9 ∷ 5 ∷ [];
@@ -227,7 +259,7 @@ crashTwice =
     }
 
 -- "`R 2` while up: 7."
-unfoldable pub recoverWhileUp : Run
+unfoldable pub recoverWhileUp : Row
 recoverWhileUp =
     record {
       values = 7 ∷ 9 ∷ 5 ∷ [];
@@ -237,7 +269,7 @@ recoverWhileUp =
     }
 
 -- a run of n = 16 whose one step is refused by k
-unfoldable pub refusedOfSixteen : Step → ℕ → Run
+unfoldable pub refusedOfSixteen : Step → ℕ → Row
 refusedOfSixteen s k =
     record {
       values = 0 ∷ 1 ∷ 2 ∷ 3 ∷ 4 ∷ 5 ∷ 6 ∷ 7 ∷ 8 ∷ 9 ∷ 10 ∷ 11 ∷ 12 ∷ 13 ∷ 14 ∷ 15 ∷ [];
@@ -247,21 +279,21 @@ refusedOfSixteen s k =
     }
 
 -- "`E 17 1 0` with n = 16: 3."
-unfoldable pub seventeenth : Run
+unfoldable pub seventeenth : Row
 seventeenth = refusedOfSixteen (DeliverE 17 1 0 false) 3
 
 -- "`E 1 1 64`: 4."
-unfoldable pub round64 : Run
+unfoldable pub round64 : Row
 round64 = refusedOfSixteen (DeliverE 1 1 64 false) 4
 
 -- "`E 1 1 63` at start: 6."
-unfoldable pub round63 : Run
+unfoldable pub round63 : Row
 round63 = refusedOfSixteen (DeliverE 1 1 63 false) 6
 
 -- "Five processes, values 7 9 5 4 3: `E 1 1 0`, `E 3 1 0`, `E 4 1 0`, `E 1 3 0`, `E 1 4 0` (1 decides 7); `Q 2`, `Q 3`, `Q 5`;
 -- `S 2 2 0`, `S 2 3 0`, `S 2 5 0` (2 in phase 2); `F 5 2 0`; `S 5 2 0`, `S 5 3 0`, `S 5 5 0` (idle);
 -- `F 2 2 0`, `F 2 5 0`, `F 2 5 0` (last idle). Process 2 stays in round 0."
-unfoldable pub fiveProcesses : Run
+unfoldable pub fiveProcesses : Row
 fiveProcesses =
     record {
       values = 7 ∷ 9 ∷ 5 ∷ 4 ∷ 3 ∷ [];
@@ -292,7 +324,7 @@ fiveProcesses =
 
 -- "n = 3: `E 2 1 0`, `C 2`, `R 2`, `E 2 1 0`: relayed again, same entry; *sent* is 0 for that last step."
 -- The E of process 2 stands at (0×16 + 2−1)×3 + 0 = 3, and is 1 × 2^32 + 7.
-unfoldable pub relayedAgain : Run
+unfoldable pub relayedAgain : Row
 relayedAgain =
     record {
       values = 7 ∷ 9 ∷ 5 ∷ [];
@@ -307,7 +339,7 @@ relayedAgain =
     }
 
 -- "Down, everything kept": after a pause and a recovery the same E is idle, and nothing is relayed
-unfoldable pub pauseKeepsTallies : Run
+unfoldable pub pauseKeepsTallies : Row
 pauseKeepsTallies =
     record {
       values = 7 ∷ 9 ∷ 5 ∷ [];
@@ -322,7 +354,7 @@ pauseKeepsTallies =
     }
 
 -- Request 2026-03, "one more at each applied recover": after a pause and after a crash; a recover of the process that is up counts nothing
-unfoldable pub comesBack : Run
+unfoldable pub comesBack : Row
 comesBack =
     record {
       values = 7 ∷ 9 ∷ 5 ∷ [];
@@ -338,7 +370,7 @@ comesBack =
     }
 
 -- and after a cut, which stores the estimate (1, 7) and hands nothing over: no E of process 2 stands at 3
-unfoldable pub comesBackFromACut : Run
+unfoldable pub comesBackFromACut : Row
 comesBackFromACut =
     record {
       values = 7 ∷ 9 ∷ 5 ∷ [];
@@ -351,7 +383,7 @@ comesBackFromACut =
     }
 
 -- "(P) marks those proved together as one table with a single statement."
-unfoldable pub table : List Run
+unfoldable pub table : List Row
 table =
     runAbove
     ∷ oneDecides
@@ -369,3 +401,6 @@ table =
     ∷ comesBack
     ∷ comesBackFromACut
     ∷ []
+
+unfoldable pub tableHolds : Bool
+tableHolds = holdsAll table && sectionsAbove

@@ -8,36 +8,29 @@ use Rattle.rules.specs.Limits.{storeLength}
 use Rattle.rules.specs.Tally.{bitOf}
 use Rattle.rules.specs.Layout.{processAt, depthAt}
 use Rattle.rules.specs.Store.{sentIn}
-use Rattle.rules.specs.Answers.{Said}
+use Rattle.rules.specs.Answers.{Said, isRefused, total, allSent}
 use Rattle.rules.specs.Depths.{depthAfter}
 use Rattle.rules.specs.Step.{Course, Idles, Refuses, Takes, settled, stepped, course}
 use Rattle.rules.specs.Run.{State, next, after, answers}
-use Rattle.rules.specs.Safety.{Begins, at, Of, Holds, says, FirstValue, sumSent, recoversOf, Longest}
+use Rattle.rules.specs.Safety.{Begins, at, Of, Holds, says, FirstValue, recoversOf, Longest}
 use Rattle.rules.specs.declared.group.Group.{Group}
 use Rattle.rules.specs.declared.step.Step.{Step}
 use Rattle.rules.proofs.Cited.{deep-more, safety}
 use Rattle.text.specs.Number.{most}
-use Rattle.schedule.specs.Counts.{none, isRefused, counted, countedAll}
+use Rattle.schedule.specs.Counts.{countsIn}
 use Rattle.schedule.specs.Schedule.{Schedule, Reading, sound, readFile, Every, Fits}
 use Rattle.schedule.specs.Run.{outcome, countsOf, begins, between, atEnd, hasRun, runBy, runOf}
 use Rattle.schedule.specs.Promise.{AddsUp, decidedIn, Promise, Promised}
-use Rattle.schedule.specs.declared.counts.Counts.{Counts}
 use Rattle.schedule.proofs.RoundTrip.File.{file-read}
 use Rattle.schedule.proofs.Running.Decided.{start-decided, reached-start, reached-after, run-decided}
 
 -- ---- the counts of a section
 
--- as many steps as are taken
-counted-steps : (c : Counts) (a : State) (ss : List Step) → countedAll c (answers a ss) .steps ≡ c .steps + length ss
-unfolding answers countedAll counted
-counted-steps c a [] = omega arith
-counted-steps c a (s ∷ ss) = let rest = counted-steps (counted c (says a s)) (next a s) ss in omega arith
-
--- *sent* of all answers
-counted-sent : (c : Counts) (xs : List Said) → countedAll c xs .sent ≡ c .sent + sumSent xs
-unfolding countedAll counted sumSent
-counted-sent c [] = omega arith
-counted-sent c (x ∷ xs) = let rest = counted-sent (counted c x) xs in omega arith
+-- as many answers as steps
+answers-length : (a : State) (ss : List Step) → length (answers a ss) ≡ length ss
+unfolding answers
+answers-length a [] = refl
+answers-length a (s ∷ ss) = let rest = answers-length (next a s) ss in omega arith
 
 -- every step is one of applied, idle and refused
 abbrev OneOf : Said → Type 0
@@ -53,35 +46,24 @@ step-one : (a : State) (s : Step) → OneOf (says a s)
 unfolding stepped
 step-one a s = settled-one (a .group) (a .store) (a .depths) (depthAfter (a .group) (a .depths) s) (course (a .group) (a .store) (a .depths) s)
 
-counted-one : (c : Counts) (x : Said) → OneOf x → AddsUp c → AddsUp (counted c x)
-unfolding counted
-counted-one c x one h = omega arith
+section-adds : (a : State) (ss : List Step) → AddsUp (countsOf a ss)
+unfolding countsOf countsIn answers total
+section-adds a [] = refl
+section-adds a (s ∷ ss) = let rest = section-adds (next a s) ss in omega (arith, step-one a s)
 
-counted-adds : (c : Counts) (a : State) (ss : List Step) → AddsUp c → AddsUp (countedAll c (answers a ss))
-unfolding answers countedAll
-counted-adds c a [] h = h
-counted-adds c a (s ∷ ss) h =
-    counted-adds (counted c (says a s)) (next a s) ss
-    (counted-one c (says a s) (step-one a s) h)
+section-steps : (a : State) (ss : List Step) → countsOf a ss .steps ≡ length ss
+unfolding countsOf countsIn
+section-steps a ss = answers-length a ss
 
-module _ (a : State) (ss : List Step) where
-  section-steps : countsOf a ss .steps ≡ length ss
-  unfolding none countsOf
-  section-steps = omega (arith, counted-steps none a ss)
-
-  section-adds : AddsUp (countsOf a ss)
-  unfolding none countsOf
-  section-adds = counted-adds none a ss refl
-
-  section-sent : countsOf a ss .sent ≡ sumSent (answers a ss)
-  unfolding none countsOf
-  section-sent = omega (arith, counted-sent none (answers a ss))
+section-sent : (a : State) (ss : List Step) → countsOf a ss .sent ≡ allSent (answers a ss)
+unfolding countsOf countsIn
+section-sent a ss = refl
 
 -- ---- two sections
 
 -- *sent* of the answers to both
-sent-more : (a : State) (ss ts : List Step) → sumSent (answers a (ss ++ ts)) ≡ sumSent (answers a ss) + sumSent (answers (after a ss) ts)
-unfolding after answers sumSent
+sent-more : (a : State) (ss ts : List Step) → allSent (answers a (ss ++ ts)) ≡ allSent (answers a ss) + allSent (answers (after a ss) ts)
+unfolding after answers total
 sent-more a [] ts = omega arith
 sent-more a (s ∷ ss) ts = let rest = sent-more (next a s) ss ts in omega arith
 
@@ -127,11 +109,11 @@ module _ (h : Schedule) (l d : List ℕ) (b : Begins (h .values) l d) where
       omega arith
 
   decided-both : decidedIn (atEnd h l d .group) ≡ countsOf (begins h l d) (h .warmup) .decided + countsOf (between h l d) (h .measured) .decided
-  unfolding none countsOf
+  unfolding countsOf countsIn
   decided-both =
       let r = reached-start (h .values) l d in
-      let one = run-decided (h .values) l d b none (begins h l d) (h .warmup) r in
-      let two = run-decided (h .values) l d b none (between h l d) (h .measured) (reached-after (h .values) l d (begins h l d) (h .warmup) r) in
+      let one = run-decided (h .values) l d b (begins h l d) (h .warmup) r in
+      let two = run-decided (h .values) l d b (between h l d) (h .measured) (reached-after (h .values) l d (begins h l d) (h .warmup) r) in
       let start = start-decided (h .values) l d b in
       omega arith
 

@@ -1,13 +1,15 @@
 -- What the parts of the reader and of the run ask and yield, for the contracts of the private functions. No public contract cites this page: a reader may skip it. Assumes nothing.
 use mathlib.Core.Path.{_≡_}
 use mathlib.Core.Bool.{Bool, true, false}
-use mathlib.Core.List.{List}
+use mathlib.Core.List.{List, [], _∷_}
 use mathlib.Core.Logic.{_≢_}
 use Prim.Native.Nat.{ℕ, _+_, _-_, _*_, _≤_, _<_}
 use lib.Dec.{eqb}
 use lib.ListN.{length, getD, take}
 use Rattle.rules.specs.Limits.{greatestSize}
 use Rattle.rules.specs.Layout.{Sized}
+use Rattle.rules.specs.Tally.{bitOf}
+use Rattle.rules.specs.Answers.{Said, isRefused}
 use Rattle.rules.specs.Step.{Ready}
 use Rattle.rules.specs.Run.{State, after}
 use Rattle.rules.specs.declared.group.Group.{Group}
@@ -170,6 +172,26 @@ unfoldable pub FormIs : List ℕ → Form → Type 0
 FormIs s r = FormCase (eqb (r .fault .number) 0) s r
 
 -- ---- the run
+
+-- with one more step, which answered a; and with each step of a list
+unfoldable pub counted : Counts → Said → Counts
+counted c a =
+    record {
+      steps = c .steps + 1;
+      applied = c .applied + bitOf (a .applied);
+      idle = c .idle + bitOf (a .idle);
+      refused = c .refused + bitOf (isRefused a);
+      sent = c .sent + a .sent;
+      decided = c .decided + bitOf (a .decided);
+    }
+
+unfoldable pub countedAll : Counts → List Said → Counts
+countedAll c [] = c
+countedAll c (a ∷ as′) = countedAll (counted c a) as′
+
+-- of k steps that are all refused
+unfoldable pub refusedAll : ℕ → Counts
+refusedAll k = record { steps = k; applied = 0; idle = 0; refused = k; sent = 0; decided = 0 }
 
 -- counts that have room for one more step
 pub record Room (c : Counts) : Type 0 where

@@ -7,13 +7,13 @@ use Rattle.rules.specs.Run.{State, startState, after, answers}
 use Rattle.schedule.specs.Schedule.{Schedule, Reading, faulty, sound, readFile, noFault}
 use Rattle.rules.specs.Layout.{blankGroup}
 use Rattle.schedule.specs.declared.fault.Fault.{Fault}
-use Rattle.schedule.specs.Counts.{none, countedAll}
+use Rattle.schedule.specs.Counts.{none, countsIn}
 use Rattle.schedule.specs.declared.counts.Counts.{Counts}
 use Rattle.schedule.specs.declared.run.Ran.{Ran}
 
 -- the counts of a section whose steps are taken from the state a on
 unfoldable pub countsOf : State → List Step → Counts
-countsOf a ss = countedAll none (answers a ss)
+countsOf a ss = countsIn (answers a ss)
 
 -- all that a run yields: what is answered, and the content of the lent store and of the lent depths
 pub record Outcome : Type 0 where

@@ -2,7 +2,7 @@
 ghost use mathlib.Core.Path.{_≡_};
 ghost use Rattle.rules.specs.Answers.{said};
 ghost use Rattle.schedule.specs.Counts as counts;
-ghost use Rattle.schedule.specs.Private.{Room};
+ghost use Rattle.schedule.specs.Private as private;
 use rules::step::Answer;
 
 // How many steps a section has; how many of them were applied, idle and refused; how many entries turned from 0 to sent; how many processes decided.
@@ -31,7 +31,7 @@ impl Counts {
 
     // Of steps that are all refused.
     pub(crate) fn refused(steps: u32) -> Counts
-        ensures { λ r. ⌜ r ≡ counts.refusedAll steps ⌝ }
+        ensures { λ r. ⌜ r ≡ private.refusedAll steps ⌝ }
     {
         Counts {
             steps: steps,
@@ -45,8 +45,8 @@ impl Counts {
 
     // With one more step, which answered so.
     pub(crate) fn counted(self, answer: Answer) -> Counts
-        requires { ⌜ Room self ⌝ }
-        ensures { λ r. ⌜ r ≡ counts.counted self (said answer) ⌝ }
+        requires { ⌜ private.Room self ⌝ }
+        ensures { λ r. ⌜ r ≡ private.counted self (said answer) ⌝ }
     {
         match answer {
             Answer::Idle => Counts {

@@ -16,8 +16,9 @@ use Rattle.rules.specs.Layout.{processAt}
 use Rattle.rules.specs.Records.{stored, blank}
 use Rattle.rules.specs.Store.{kindE, kindS, kindF, proposerOf, sentIn}
 use Rattle.rules.specs.Kinds.{takerOf}
+use Rattle.rules.specs.Answers.{allSent}
 use Rattle.rules.specs.Refusals.{isRecover}
-use Rattle.rules.specs.Safety.{Of, Holds, FirstValue, cut, back, Among, Comes, sumSent, Heard, Majority, estimatesWith}
+use Rattle.rules.specs.Safety.{Of, Holds, FirstValue, cut, back, Among, Comes, Heard, Majority, estimatesWith}
 use Rattle.rules.proofs.Bare.Step.{damaged, refusal, stepped}
 use Rattle.rules.proofs.Bare.Run.{State, startState, next, after, answers, handedFrom}
 
@@ -107,7 +108,7 @@ PastKept = EveryRun λ vs l ss. (k : ℕ) → storeLength ≤ k → getD (at vs 
 
 -- the sent entries number 1 and the sum of *sent* over all steps
 abbrev pub SentCounts : Type 0
-SentCounts = EveryRun λ vs l ss. sentIn (at vs l ss .store) storeLength ≡ 1 + sumSent (answers (startState vs l) ss)
+SentCounts = EveryRun λ vs l ss. sentIn (at vs l ss .store) storeLength ≡ 1 + allSent (answers (startState vs l) ss)
 
 -- records above n are as start left them
 abbrev pub AboveKept : Type 0

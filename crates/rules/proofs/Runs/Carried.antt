@@ -19,10 +19,11 @@ use Rattle.rules.specs.Records.{stored, blank}
 use Rattle.rules.specs.Store.{kindE, kindS, kindF, proposerOf, sentIn}
 use Rattle.rules.specs.Kinds.{takerOf}
 use Rattle.rules.specs.Refusals.{strange, isRecover, down}
+use Rattle.rules.specs.Answers.{allSent}
 use Rattle.rules.specs.Run.{State, startState, next, after, Handed, handed, handedByCourse, handedBy, handedIn, handedFrom}
 use Rattle.rules.specs.Start.{firstMessage}
 use Rattle.rules.specs.Safety.{Begins, at, Of, processOf, Holds, refusalAt, Agreement, Validity, FirstValuesStay, DecisionsStay, DownThrough, cut, back}
-use Rattle.rules.specs.Safety.{Recovery, DownKeeps, GoingDownKeeps, CutStores, Among, Comes, RefusalSix, sumSent, PastKept, SentCounts, SoundEntries}
+use Rattle.rules.specs.Safety.{Recovery, DownKeeps, GoingDownKeeps, CutStores, Among, Comes, RefusalSix, PastKept, SentCounts, SoundEntries}
 use Rattle.rules.specs.Safety.{TalliesFit, Heard, TalliesHeard, Majority, estimatesWith, DecidesWithMajority, Phase2WithMajority, NextRoundWithMajority}
 use Rattle.rules.specs.Safety.{recoversOf, RecoveriesCounted, RecoveriesFit, RefusalThirteen}
 use Rattle.rules.proofs.Bare.Step as base
@@ -204,7 +205,7 @@ past-kept vs l d ss b k le =
 pub sent-counts : SentCounts
 sent-counts vs l d ss b =
     ap (λ (m : List ℕ). sentIn m storeLength) (sym (store-here vs l d ss b))
-    ∙ entries.sent-counts vs l ss (bare-begins b) ∙ ap (λ xs. 1 + sumSent xs) (sym (answers-stay vs l d ss b))
+    ∙ entries.sent-counts vs l ss (bare-begins b) ∙ ap (λ xs. 1 + allSent xs) (sym (answers-stay vs l d ss b))
 
 pub above-blank : (vs l d : List ℕ) (ss : List Step) → Begins vs l d → (i : ℕ) → length vs < i → i ≤ greatestSize → processOf (at vs l d ss) i ≡ blank
 above-blank vs l d ss b i lo hi = sym (here vs l d ss b i hi) ∙ entries.above-kept vs l ss (bare-begins b) i lo hi

@@ -10,7 +10,7 @@ use Rattle.rules.specs.declared.step.Step.{Step}
 use Rattle.rules.specs.Limits.{storeLength}
 use Rattle.rules.specs.Records.{blank}
 use Rattle.rules.specs.Store.{sentIn}
-use Rattle.rules.specs.Safety.{sumSent}
+use Rattle.rules.specs.Answers.{total, allSent}
 use Rattle.rules.proofs.Bare.Run.{State, startState, next, after, answers}
 use Rattle.rules.proofs.Bare.Statements.{at, processOf, SentStays, PastKept, SentCounts, AboveKept}
 use Rattle.rules.proofs.Bare.Step.{begun, stepped}
@@ -56,8 +56,8 @@ above-kept vs l ss b i lo hi =
 
 -- from any state of a run on
 counts-on : (vs : List ℕ) (a : State) (ss : List Step) → Basic vs a
-    → sentIn (after a ss .store) storeLength ≡ sentIn (a .store) storeLength + sumSent (answers a ss)
-unfolding after answers sumSent next
+    → sentIn (after a ss .store) storeLength ≡ sentIn (a .store) storeLength + allSent (answers a ss)
+unfolding after answers total next
 counts-on vs a [] h = omega arith
 counts-on vs a (s ∷ ss) h =
     let rest = counts-on vs (next a s) ss (basic-next vs a s h) in

@@ -11,6 +11,7 @@ use Rattle.rules.specs.Limits.{greatestSize}
 use Rattle.rules.specs.Tally.{bitOf, count}
 use Rattle.rules.specs.Layout.{processAt, withProcess, withDepth, Sized}
 use Rattle.rules.specs.Depths.{depthAfter}
+use Rattle.rules.specs.Answers.{total}
 use Rattle.rules.specs.Start.{fresh, startedTo}
 use Rattle.rules.specs.Step.{Course, Idles, Refuses, Takes, decidesNow, settled, stepped, course}
 use Rattle.rules.specs.Run.{State, startState, next, after, answers}
@@ -19,9 +20,7 @@ use Rattle.rules.specs.declared.group.Group.{Group}
 use Rattle.rules.specs.declared.process.Process.{Process}
 use Rattle.rules.specs.declared.step.Step.{Step}
 use Rattle.rules.proofs.Cited.{count-ext, count-none, process-put, process-kept, with-size, started-process, started-size, Fine, process-deep, DeepBasic, deep-size, deep-fine, start-deep, deep-basic, deep-more, safety}
-use Rattle.schedule.specs.Counts.{counted, countedAll}
 use Rattle.schedule.specs.Promise.{decidedIn}
-use Rattle.schedule.specs.declared.counts.Counts.{Counts}
 
 -- ---- counting
 
@@ -153,10 +152,8 @@ module _ (vs l d : List ℕ) where
         step-decided (a .group) (h .sized) (omega (arith, size, b .few)) (a .store) (a .depths) s (deep-fine vs a h s) (λ i lo hi. stays i lo (omega (arith, size)))
 
     -- the processes that decide while some steps are taken are those that their counts add
-    pub run-decided : (c : Counts) (a : State) (ss : List Step) → Reached a
-        → decidedIn (after a ss .group) + c .decided ≡ decidedIn (a .group) + countedAll c (answers a ss) .decided
-    unfolding after answers countedAll counted
-    run-decided c a [] r = refl
-    run-decided c a (s ∷ ss) r =
-        let rest = run-decided (counted c (says a s)) (next a s) ss (reached-next a s r) in
-        omega (arith, next-decided a s r)
+    pub run-decided : (a : State) (ss : List Step) → Reached a
+        → decidedIn (after a ss .group) ≡ decidedIn (a .group) + total (λ x. bitOf (x .decided)) (answers a ss)
+    unfolding after answers total
+    run-decided a [] r = omega arith
+    run-decided a (s ∷ ss) r = let rest = run-decided (next a s) ss (reached-next a s r) in omega (arith, next-decided a s r)

@@ -9,7 +9,7 @@ use lib.ListN.{length, getD}
 use Rattle.rules.specs.Tally.{bitOf}
 use Rattle.rules.specs.Layout.{Sized}
 use Rattle.rules.specs.Store.{placeOf, handOver, turned}
-use Rattle.rules.specs.Answers.{Said, Outcome, outcome}
+use Rattle.rules.specs.Answers.{Said, isRefused, total, Outcome, outcome}
 use Rattle.rules.specs.Depths.{depthAfter}
 use Rattle.rules.specs.Refusals.{damaged}
 use Rattle.rules.specs.Step.{Course, Idles, Refuses, Takes, sentBy, course, settled, stepped, Ready}
@@ -23,11 +23,12 @@ use Rattle.rules.proofs.Cited.{deep-sound-step, deep-sized-step, deep-step-leng
 use Rattle.schedule.specs.Limits.{mostSteps}
 use Rattle.schedule.specs.Lines.{items, linesAt}
 use Rattle.schedule.specs.Line.{lineAt}
-use Rattle.schedule.specs.Counts.{none, isRefused, counted, countedAll}
+use Rattle.schedule.specs.Counts.{none, countsIn}
 use Rattle.schedule.specs.Run.{countsOf}
-use Rattle.schedule.specs.Private.{KnownLine, lineRead, StepsAt, Room, RunReady, stateWith, RanSteps, RanTo}
+use Rattle.schedule.specs.Private.{counted, countedAll, KnownLine, lineRead, StepsAt, Room, RunReady, stateWith, RanSteps, RanTo}
 use Rattle.schedule.specs.declared.counts.Counts.{Counts}
 use Rattle.schedule.specs.declared.line.StepRead.{StepRead}
+use Rattle.schedule.proofs.Running.Counts.{counted-is}
 use Rattle.schedule.proofs.Reading.InARow.{First, lines-first, lines-none, one-less, same-thing, same-place, same-things}
 
 -- ---- a step sends at most two
@@ -69,7 +70,7 @@ pub record Counting (c : Counts) (i : ℕ) : Type 0 where
   pub decided : c .decided ≤ i
 
 pub counting-none : Counting none 0
-unfolding none
+unfolding countsIn total
 counting-none = record { steps = omega arith; applied = omega arith; idle = omega arith; refused = omega arith; sent = omega arith; decided = omega arith }
 
 pub counting-more : (c : Counts) (i : ℕ) (a : Said) → Counting c i → a .sent ≤ 2 → Counting (counted c a) (i + 1)
@@ -133,7 +134,7 @@ module _ (s : List ℕ) (at count : ℕ) where
         ready = h .ready;
         counting = counting-none;
         state = refl;
-        counts = refl;
+        counts = sym (counted-is (answers (stateWith g l d) (h .steps)));
         same = refl;
         deep-same = refl;
       }

@@ -11,23 +11,24 @@ use borrow.Author.Tests.{le-ltb, ltb-false, eqb-false, ne-eqb}
 use Rattle.rules.specs.Limits.{greatestSize, storeLength}
 use Rattle.rules.specs.Layout.{Sized}
 use Rattle.rules.specs.Refusals.{row, short, miscounted, damaged, startRefusal, refusal}
-use Rattle.rules.specs.Answers.{Said, saysRefused, Outcome, outcome}
+use Rattle.rules.specs.Answers.{Said, saysRefused, total, Outcome, outcome}
 use Rattle.rules.specs.Start.{started}
 use Rattle.rules.specs.Step.{stepped, Ready}
 use Rattle.rules.specs.Run.{State, stateOf, startState, next, after, answers}
 use Rattle.rules.specs.declared.group.Group.{Group}
 use Rattle.rules.specs.declared.step.Step.{Step}
 use Rattle.rules.proofs.Cited.{or-left, or-right, among-in, deep-keeps, deep-sound-step, deep-sized-step, deep-step-length, depths-step-length, Starting, deep-starting}
-use Rattle.schedule.specs.Counts.{none, counted, countedAll, refusedAll}
 use Rattle.schedule.specs.Schedule.{Schedule, Reading, faulty, sound, readFile, Fits, noFault}
 use Rattle.schedule.specs.Run.{countsOf, hasRun, notRun, runBy, runOf, begins, between}
 use Rattle.schedule.specs.Run.{outcome as ranTo}
-use Rattle.schedule.specs.Private.{FormGood, FormCase, FormIs, RunReady, stateWith, RanSteps, RanTo, BothReady, RanBoth, BothRan, SoundRan}
+use Rattle.schedule.specs.Private.{counted, countedAll, refusedAll, FormGood, FormCase, FormIs, RunReady, stateWith, RanSteps, RanTo, BothReady, RanBoth, BothRan, SoundRan}
 use Rattle.schedule.specs.declared.counts.Counts.{Counts}
 use Rattle.schedule.specs.declared.fault.Fault.{Fault}
 use Rattle.schedule.specs.declared.file.Form.{Form}
 use Rattle.schedule.specs.declared.file.Places.{Places}
 use Rattle.schedule.specs.declared.run.Ran.{Ran}
+use Rattle.schedule.specs.Counts.{countsIn}
+use Rattle.schedule.proofs.Running.Counts.{counted-is}
 use Rattle.schedule.proofs.RoundTrip.File.{file-read}
 
 -- ---- a sound group over long stores stays so
@@ -117,8 +118,8 @@ module _ (a : State) (m : ℕ) (h : (s : Step) → refusal (a .group) (a .store)
       ∙ ap (λ (d : Counts). countedAll d (answers a ss)) (one-more k) ∙ short-from (k + 1) ss ∙ ap refusedAll (omega arith)
 
   pub short-counts : (ss : List Step) → countsOf a ss ≡ refusedAll (length ss)
-  unfolding countsOf none refusedAll
-  short-counts ss = short-from 0 ss ∙ ap refusedAll (omega arith)
+  unfolding countsOf countsIn total refusedAll
+  short-counts ss = sym (counted-is (answers a ss)) ∙ short-from 0 ss ∙ ap refusedAll (omega arith)
 
 -- 11 where the store is, else 14 where the depths are
 short-number : (a : State) → (ltb (length (a .store)) storeLength || ltb (length (a .depths)) storeLength) ≡ true

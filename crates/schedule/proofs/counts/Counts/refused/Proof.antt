@@ -1,6 +1,6 @@
 -- `counts::Counts::refused` meets its contract, by computing. Assumes nothing.
 use mathlib.Core.Path.{refl}
-use Rattle.schedule.specs.Counts.{refusedAll}
+use Rattle.schedule.specs.Private.{refusedAll}
 use Rattle.schedule.proofs.counts.Counts.refused.Statement.{statement}
 use Rattle.schedule.proofs.counts.Counts.refused.Tie as tie
 
