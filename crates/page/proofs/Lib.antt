@@ -2,3 +2,4 @@ pub mod PieceLaws
 pub mod FillLaws
 pub mod ReportLaws
 pub mod Unique
+pub mod Example

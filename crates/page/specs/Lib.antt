@@ -6,5 +6,6 @@ pub mod Limits
 pub mod Filled
 -- the report's bytes
 pub mod Report
+pub mod Example
 -- for the contracts of private functions alone
 pub mod Private

@@ -12,4 +12,4 @@ pub use Rattle.rules.proofs.Laws.Column.{process-deep}
 -- counting, tests of 1..n, truth values
 pub use Rattle.rules.proofs.Laws.Count.{count-ext, count-none}
 pub use Rattle.rules.proofs.Laws.Row.{among-true, among-in}
-pub use Rattle.rules.proofs.Laws.Bool.{or-left, or-right}
+pub use Rattle.rules.proofs.Laws.Bool.{and-left, and-right, or-left, or-right}
