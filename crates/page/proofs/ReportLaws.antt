@@ -20,7 +20,7 @@ use Rattle.text.specs.Number.{pick}
 use Rattle.text.specs.Put.{Wrote}
 use Rattle.text.proofs.PutLaws.{wrote-length, wrote-same, wrote-first}
 use Rattle.schedule.specs.Schedule.{Reading, faulty, sound, readFile}
-use Rattle.schedule.specs.Run.{Outcome, outcome, runBy, runOf, hasRun, notRun, begins, between}
+use Rattle.schedule.specs.Run.{RanOver, ranOver, runBy, runOf, hasRun, notRun, begins, between}
 use Rattle.schedule.specs.declared.run.Ran.{Ran}
 use Rattle.page.specs.Limits.{longestStatus, longestEstimate, longestEnd, longestLine}
 use Rattle.page.specs.Report.{faultLine, statusPart, estimatePart, endPart, processLine, lineOfProcess, processLines, doneText, reportOf, Reports}
@@ -65,12 +65,12 @@ ran-size s l d = go (readFile s)
 
 -- ---- the report of what was run
 
-module _ (s l d : List ℕ) {l′ d′ : List ℕ} (r : Ran) (runs : outcome r l′ d′ ≡ runOf s l d) where
+module _ (s l d : List ℕ) {l′ d′ : List ℕ} (r : Ran) (runs : ranOver r l′ d′ ≡ runOf s l d) where
   pub runs-size : r .group .n ≤ 16
-  runs-size = omega (arith, ap (λ (o : Outcome). o .ran .group .n) runs, ran-size s l d)
+  runs-size = omega (arith, ap (λ (o : RanOver). o .ran .group .n) runs, ran-size s l d)
 
   reported : {out out′ : List ℕ} {k : ℕ} → Wrote out 0 (reportOf r) out′ k → Reports s l d out l′ d′ out′ k
-  reported w = record { bytes = wrote-same (ap (λ (o : Outcome). reportOf (o .ran)) runs) w; store = ap (λ (o : Outcome). o .store) runs; depths = ap (λ (o : Outcome). o .depths) runs }
+  reported w = record { bytes = wrote-same (ap (λ (o : RanOver). reportOf (o .ran)) runs) w; store = ap (λ (o : RanOver). o .store) runs; depths = ap (λ (o : RanOver). o .depths) runs }
 
   -- a faulty file's one line
   pub report-bad : {out out′ : List ℕ} {k : ℕ} → (r .fault .number ≡ 0 → ⊥) → Wrote out 0 (faultLine (r .fault)) out′ k → Reports s l d out l′ d′ out′ k

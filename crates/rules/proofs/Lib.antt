@@ -7,4 +7,3 @@ pub mod Theorem
 pub mod Unique
 pub mod Cited
 pub mod Table
-pub mod DepthTable

@@ -20,6 +20,8 @@ use Rattle.rules.specs.Answers.{total}
 use Rattle.rules.specs.Start.{fresh, startedTo, opened, openedDepths, unlessRefusedStart, started}
 use Rattle.rules.specs.Step.{idles, orIdle, unlessRefused, course, handOvers, sentBy, decidesNow, settled, stepped}
 use Rattle.rules.specs.Run.{startState, next, after, answers, one, handedByCourse, handedBy}
+use Rattle.rules.specs.Safety.{isSuspicion, plain, deliversE, senderOf, ledBy}
+use Rattle.rules.specs.DepthTable.{allDeep, allAtDepth, ends, holdsFrom, depthsHold, goodRun, relayFirst, coordinatorCrashes, cutKeeps, depthTable}
 use Rattle.rules.specs.Table.{sameSaid, looks, looksIn, allLook, allStand, sameHanded, answered, goesOn, holdsOne, holdsAll, runAbove, oneDecides}
 use Rattle.rules.specs.Table.{oneEntersRound1, repeatIsIdle, suspectTwice, crashTwice, recoverWhileUp, refusedOfSixteen, seventeenth}
 use Rattle.rules.specs.Table.{round64, round63, fiveProcesses, relayedAgain, pauseKeepsTallies, comesBack, comesBackFromACut, table, sameNumbers, stepsOf, addUp, sectionsAbove, tableHolds}
@@ -45,4 +47,6 @@ unfolding ones
     sameSaid looks looksIn allLook allStand sameHanded answered goesOn holdsOne holdsAll runAbove oneDecides
     oneEntersRound1 repeatIsIdle suspectTwice crashTwice recoverWhileUp refusedOfSixteen seventeenth
     round64 round63 fiveProcesses relayedAgain pauseKeepsTallies comesBack comesBackFromACut table sameNumbers stepsOf addUp sectionsAbove tableHolds
+    isSuspicion plain deliversE senderOf ledBy
+    allDeep allAtDepth ends holdsFrom depthsHold goodRun relayFirst coordinatorCrashes cutKeeps depthTable
 table-holds = refl

@@ -1,5 +1,5 @@
--- Request 2026-06: the worked runs of docs/MODEL.md with the depths that they must give, as one table. Its statement is `depthsHold depthTable ≡ true`, in proofs/DepthTable.antt.
--- Assumes nothing. The values are 7, 9 and 5.
+-- Request 2026-06: the worked runs of docs/MODEL.md with the depths that they must give, as rows of the table in `Table`. The values are 7, 9 and 5.
+-- Assumes nothing.
 use mathlib.Core.Bool.{Bool, true, false, _&&_, Bool·beq}
 use mathlib.Core.List.{List, [], _∷_}
 use Prim.Native.Nat.{ℕ}

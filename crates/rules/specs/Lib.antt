@@ -22,7 +22,7 @@ pub mod Step
 -- a run, what holds of every one, and "Runs to hold it against"
 pub mod Run
 pub mod Safety
-pub mod Table
 pub mod DepthTable
+pub mod Table
 -- for the contracts of private functions alone
 pub mod Private

@@ -16,6 +16,7 @@ use Rattle.rules.specs.Store.{placeOf, entryFor}
 use Rattle.rules.specs.Answers.{Said, saysApplied, saysIdle, saysRefused, isRefused, total, allSent}
 use Rattle.rules.specs.Step.{stepped}
 use Rattle.rules.specs.Run.{State, stateOf, startState, after, answers, Handed, handedBy}
+use Rattle.rules.specs.DepthTable.{depthsHold, depthTable}
 
 -- ---- a run of the table
 
@@ -402,5 +403,6 @@ table =
     ∷ comesBackFromACut
     ∷ []
 
+-- all of it, with the depths of the worked runs of request 2026-06
 unfoldable pub tableHolds : Bool
-tableHolds = holdsAll table && sectionsAbove
+tableHolds = holdsAll table && (sectionsAbove && depthsHold depthTable)

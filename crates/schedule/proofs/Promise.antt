@@ -19,8 +19,8 @@ use Rattle.rules.proofs.Cited.{deep-more, safety}
 use Rattle.text.specs.Number.{most}
 use Rattle.schedule.specs.Counts.{countsIn}
 use Rattle.schedule.specs.Schedule.{Schedule, Reading, sound, readFile, Every, Fits}
-use Rattle.schedule.specs.Run.{outcome, countsOf, begins, between, atEnd, hasRun, runBy, runOf}
-use Rattle.schedule.specs.Promise.{AddsUp, decidedIn, Promise, Promised}
+use Rattle.schedule.specs.Run.{ranOver, countsOf, begins, between, atEnd, hasRun, runBy, runOf}
+use Rattle.schedule.specs.Promise.{AddsUp, deciders, Promise, Promised}
 use Rattle.schedule.proofs.RoundTrip.File.{file-read}
 use Rattle.schedule.proofs.Running.Decided.{start-decided, reached-start, reached-after, run-decided}
 
@@ -108,7 +108,7 @@ module _ (h : Schedule) (l d : List ℕ) (b : Begins (h .values) l d) where
       let two = section-sent (between h l d) (h .measured) in
       omega arith
 
-  decided-both : decidedIn (atEnd h l d .group) ≡ countsOf (begins h l d) (h .warmup) .decided + countsOf (between h l d) (h .measured) .decided
+  decided-both : deciders (atEnd h l d .group) ≡ countsOf (begins h l d) (h .warmup) .decided + countsOf (between h l d) (h .measured) .decided
   unfolding countsOf countsIn
   decided-both =
       let r = reached-start (h .values) l d in
@@ -121,7 +121,7 @@ module _ (h : Schedule) (l d : List ℕ) (b : Begins (h .values) l d) where
   at-end : (P : State → Type 0) → P (at (h .values) l d steps) → P (atEnd h l d)
   at-end P x = subst P end-is x
 
-  run-promise : Promise h l d (outcome (hasRun h l d) (atEnd h l d .store) (atEnd h l d .depths))
+  run-promise : Promise h l d (ranOver (hasRun h l d) (atEnd h l d .store) (atEnd h l d .depths))
   unfolding hasRun
   run-promise =
       record {
@@ -147,7 +147,7 @@ module _ (h : Schedule) (l d : List ℕ) (b : Begins (h .values) l d) where
             (safety .longest (h .values) l d steps b);
       }
 
-run-is : (s l d : List ℕ) (h : Schedule) → readFile s ≡ sound h → runOf s l d ≡ outcome (hasRun h l d) (atEnd h l d .store) (atEnd h l d .depths)
+run-is : (s l d : List ℕ) (h : Schedule) → readFile s ≡ sound h → runOf s l d ≡ ranOver (hasRun h l d) (atEnd h l d .store) (atEnd h l d .depths)
 unfolding runOf runBy
 run-is s l d h e = ap (λ (r : Reading). runBy r l d) e
 

@@ -1,14 +1,14 @@
--- Each public contract admits one outcome: two that meet it on one input are equal. Assumes nothing.
+-- Each public contract admits one ranOver: two that meet it on one input are equal. Assumes nothing.
 use mathlib.Core.Path.{_≡_, sym, ap, _∙_}
 use mathlib.Core.List.{List}
 use Prim.Native.Nat.{ℕ}
-use Rattle.schedule.specs.Run.{Outcome, Runs}
+use Rattle.schedule.specs.Run.{RanOver, Runs}
 use Rattle.schedule.specs.declared.run.Ran.{Ran}
 
 -- of the run: the answer and the whole content of both stores
 pub run-one : (s l d : List ℕ) {r q : Ran} {a b a′ b′ : List ℕ} → Runs s l d r a a′ → Runs s l d q b b′ → (r ≡ q) × (a ≡ b) × (a′ ≡ b′)
 run-one s l d x y = (
-  ap (λ (o : Outcome). o .ran) (x ∙ sym y),
-  ap (λ (o : Outcome). o .store) (x ∙ sym y),
-  ap (λ (o : Outcome). o .depths) (x ∙ sym y),
+  ap (λ (o : RanOver). o .ran) (x ∙ sym y),
+  ap (λ (o : RanOver). o .store) (x ∙ sym y),
+  ap (λ (o : RanOver). o .depths) (x ∙ sym y),
 )

@@ -19,7 +19,7 @@ use Rattle.text.specs.Number.{pick, numberAt}
 use Rattle.schedule.specs.Lines.{Item, broken, item, Items, brokenAt, items, linesAt}
 use Rattle.schedule.specs.Line.{End, noEnd, ends, nextNumber, lineAt}
 use Rattle.schedule.specs.Schedule.{Schedule, faulty, sound, valuesFrom, warmupFrom, readFile, partAt, noPart, part, noFault}
-use Rattle.schedule.specs.Run.{countsOf, outcome, runBy}
+use Rattle.schedule.specs.Run.{countsOf, ranOver, runBy}
 use Rattle.text.specs.declared.number.Number.{Number}
 use Rattle.schedule.specs.declared.line.Read.{Read}
 use Rattle.schedule.specs.declared.line.StepRead.{StepRead}
@@ -245,4 +245,4 @@ BothRan s p g l d r l′ d′ = (ws ms : List Step) (a b : ℕ) → StepsAt s (p
 
 -- a sound file's run
 abbrev pub SoundRan : List ℕ → List ℕ → List ℕ → Ran → List ℕ → List ℕ → Type 0
-SoundRan s l d r l′ d′ = (h : Schedule) → readFile s ≡ sound h → outcome r l′ d′ ≡ runBy (sound h) l d
+SoundRan s l d r l′ d′ = (h : Schedule) → readFile s ≡ sound h → ranOver r l′ d′ ≡ runBy (sound h) l d

@@ -11,7 +11,7 @@ use Rattle.rules.specs.Run.{startState}
 use Rattle.rules.specs.Safety.{Of, Holds, FirstValue, recoversOf, Longest}
 use Rattle.rules.specs.declared.group.Group.{Group}
 use Rattle.schedule.specs.Schedule.{Schedule, readFile, sound}
-use Rattle.schedule.specs.Run.{Outcome, runOf}
+use Rattle.schedule.specs.Run.{RanOver, runOf}
 use Rattle.schedule.specs.declared.counts.Counts.{Counts}
 
 -- "Every step is applied, idle or refused": the three counts of a section add up to its steps
@@ -19,11 +19,11 @@ abbrev pub AddsUp : Counts → Type 0
 AddsUp c = c .applied + c .idle + c .refused ≡ c .steps
 
 -- how many processes of a group hold a decision
-abbrev pub decidedIn : Group → ℕ
-decidedIn g = count (λ i. processAt g i .decided) (g .n)
+abbrev pub deciders : Group → ℕ
+deciders g = count (λ i. processAt g i .decided) (g .n)
 
 -- of the schedule h and of all that its run over the stores l and d, of at least 3,088 numbers each, yields
-pub record Promise (h : Schedule) (l d : List ℕ) (o : Outcome) : Type 0 where
+pub record Promise (h : Schedule) (l d : List ℕ) (o : RanOver) : Type 0 where
   -- both sections have as many steps as were read
   pub warmup : o .ran .warmup .steps ≡ length (h .warmup)
   pub measured : o .ran .measured .steps ≡ length (h .measured)
@@ -32,7 +32,7 @@ pub record Promise (h : Schedule) (l d : List ℕ) (o : Outcome) : Type 0 where
   -- "1 + both sent counts equals the sent entries in the store at the end"
   pub sent : sentIn (o .store) storeLength ≡ 1 + (o .ran .warmup .sent + o .ran .measured .sent)
   -- both *decided* together are the processes that hold a decision
-  pub decided : decidedIn (o .ran .group) ≡ o .ran .warmup .decided + o .ran .measured .decided
+  pub decided : deciders (o .ran .group) ≡ o .ran .warmup .decided + o .ran .measured .decided
   -- no two processes hold different decisions, and each is some process's first value
   pub agreement : (i j v w : ℕ) → Of (h .values) i → Of (h .values) j
       → Holds (processAt (o .ran .group) i) v → Holds (processAt (o .ran .group) j) w → v ≡ w

@@ -16,13 +16,13 @@ unfoldable pub countsOf : State → List Step → Counts
 countsOf a ss = countsIn (answers a ss)
 
 -- all that a run yields: what is answered, and the content of the lent store and of the lent depths
-pub record Outcome : Type 0 where
+pub record RanOver : Type 0 where
   pub ran : Ran
   pub store : List ℕ
   pub depths : List ℕ
 
-abbrev pub outcome : Ran → List ℕ → List ℕ → Outcome
-outcome r l d = record { ran = r; store = l; depths = d }
+abbrev pub ranOver : Ran → List ℕ → List ℕ → RanOver
+ranOver r l d = record { ran = r; store = l; depths = d }
 
 -- the start, the state between the two sections, and the end
 abbrev pub begins : Schedule → List ℕ → List ℕ → State
@@ -49,13 +49,13 @@ unfoldable pub notRun : Fault → Ran
 notRun f = record { fault = f; warmup = none; measured = none; group = blankGroup 0 }
 
 -- "no step is run" where the file is faulty
-unfoldable pub runBy : Reading → List ℕ → List ℕ → Outcome
-runBy (faulty f) l d = outcome (notRun f) l d
-runBy (sound h) l d = outcome (hasRun h l d) (atEnd h l d .store) (atEnd h l d .depths)
+unfoldable pub runBy : Reading → List ℕ → List ℕ → RanOver
+runBy (faulty f) l d = ranOver (notRun f) l d
+runBy (sound h) l d = ranOver (hasRun h l d) (atEnd h l d .store) (atEnd h l d .depths)
 
-unfoldable pub runOf : List ℕ → List ℕ → List ℕ → Outcome
+unfoldable pub runOf : List ℕ → List ℕ → List ℕ → RanOver
 runOf s l d = runBy (readFile s) l d
 
 -- the contract of the run: what it answers and what both stores then hold are just what the run yields
 abbrev pub Runs : List ℕ → List ℕ → List ℕ → Ran → List ℕ → List ℕ → Type 0
-Runs s l d r after′ deep′ = outcome r after′ deep′ ≡ runOf s l d
+Runs s l d r after′ deep′ = ranOver r after′ deep′ ≡ runOf s l d

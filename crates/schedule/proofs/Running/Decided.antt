@@ -20,7 +20,7 @@ use Rattle.rules.specs.declared.group.Group.{Group}
 use Rattle.rules.specs.declared.process.Process.{Process}
 use Rattle.rules.specs.declared.step.Step.{Step}
 use Rattle.rules.proofs.Cited.{count-ext, count-none, process-put, process-kept, with-size, started-process, started-size, Fine, process-deep, DeepBasic, deep-size, deep-fine, start-deep, deep-basic, deep-more, safety}
-use Rattle.schedule.specs.Promise.{decidedIn}
+use Rattle.schedule.specs.Promise.{deciders}
 
 -- ---- counting
 
@@ -57,7 +57,7 @@ unfolding decidesNow
 decides-bit p q h = bits (p .decided) (q .decided) h
 
 -- a depth changes no decision
-deep-decided : (g : Group) (i k : ℕ) → g .n ≤ greatestSize → decidedIn (withDepth g i k) ≡ decidedIn g
+deep-decided : (g : Group) (i k : ℕ) → g .n ≤ greatestSize → deciders (withDepth g i k) ≡ deciders g
 unfolding withDepth
 deep-decided g i k small =
     count-ext (λ j. processAt g j .decided) (λ j. processAt (withDepth g i k) j .decided) (g .n)
@@ -66,11 +66,11 @@ deep-decided g i k small =
 module _ (g : Group) (sized : Sized g) (small : g .n ≤ greatestSize) where
   -- the change of one process
   with-decided : (i : ℕ) (q : Process) → 1 ≤ i → i ≤ g .n → (processAt g i .decided ≡ true → q .decided ≡ true)
-      → decidedIn (withProcess g i q) ≡ decidedIn g + bitOf (decidesNow (processAt g i) q)
+      → deciders (withProcess g i q) ≡ deciders g + bitOf (decidesNow (processAt g i) q)
   with-decided i q lo hi stays =
       let p : ℕ → Bool = λ j. processAt g j .decided in
       let r : ℕ → Bool = λ j. processAt (withProcess g i q) j .decided in
-      let size : decidedIn (withProcess g i q) ≡ count r (g .n) = ap (count r) (with-size g i q) in
+      let size : deciders (withProcess g i q) ≡ count r (g .n) = ap (count r) (with-size g i q) in
       let own : bitOf (r i) ≡ bitOf (q .decided) = ap (λ (x : Process). bitOf (x .decided)) (process-put g i q sized lo (omega arith)) in
       let change : count r (g .n) + bitOf (p i) ≡ count p (g .n) + bitOf (r i) =
       count-change p r (g .n) i lo hi (λ j c d ne. ap (λ (x : Process). x .decided) (process-kept g i j q lo (omega arith) c (omega arith) ne)) in
@@ -82,7 +82,7 @@ module _ (g : Group) (sized : Sized g) (small : g .n ≤ greatestSize) where
   Stay g′ = (i : ℕ) → 1 ≤ i → i ≤ g .n → processAt g i .decided ≡ true → processAt g′ i .decided ≡ true
 
   settled-decided : (l d : List ℕ) (k : ℕ) (c : Course) → Fine (g .n) c → Stay (settled g l d k c .group)
-      → decidedIn (settled g l d k c .group) ≡ decidedIn g + bitOf (settled g l d k c .says .decided)
+      → deciders (settled g l d k c .group) ≡ deciders g + bitOf (settled g l d k c .says .decided)
   unfolding settled
   settled-decided l d k Idles f h = omega arith
   settled-decided l d k (Refuses j) f h = omega arith
@@ -95,17 +95,17 @@ module _ (g : Group) (sized : Sized g) (small : g .n ≤ greatestSize) where
       ∙ ap (λ (q : Process). q .decided) (sym (process-deep g′ i k i (f .small))) ∙ h i (f .low) (f .high) e)
 
   step-decided : (l d : List ℕ) (s : Step) → Fine (g .n) (course g l d s) → Stay (stepped g l d s .group)
-      → decidedIn (stepped g l d s .group) ≡ decidedIn g + bitOf (stepped g l d s .says .decided)
+      → deciders (stepped g l d s .group) ≡ deciders g + bitOf (stepped g l d s .says .decided)
   unfolding stepped
   step-decided l d s f h = settled-decided l d (depthAfter g d s) (course g l d s) f h
 
 -- ---- a run
 
 -- no process of a start has decided
-pub start-decided : (vs l d : List ℕ) → Begins vs l d → decidedIn (startState vs l d .group) ≡ 0
+pub start-decided : (vs l d : List ℕ) → Begins vs l d → deciders (startState vs l d .group) ≡ 0
 unfolding fresh
 start-decided vs l d b =
-    ap (λ (a : State). decidedIn (a .group)) (start-deep vs l d b)
+    ap (λ (a : State). deciders (a .group)) (start-deep vs l d b)
     ∙ count-none (λ i. processAt (startedTo vs (length vs)) i .decided) (startedTo vs (length vs) .n)
     (λ i lo hi. ap (λ (p : Process). p .decided) (started-process vs (length vs) i lo (omega (arith, started-size vs (length vs))) (b .few)))
 
@@ -143,7 +143,7 @@ module _ (vs l d : List ℕ) where
         safety .decisions vs l d ss b (s ∷ []) i (processOf (at vs l d ss) i .decision) (record { low = lo; high = hi }) (record { decided = e; decision = refl }) .decided
 
     next-decided : (a : State) (s : Step) → Reached a
-        → decidedIn (next a s .group) ≡ decidedIn (a .group) + bitOf (says a s .decided)
+        → deciders (next a s .group) ≡ deciders (a .group) + bitOf (says a s .decided)
     unfolding next
     next-decided a s r =
         let h : DeepBasic vs a = subst (DeepBasic vs) (r .is) (deep-basic vs l d (r .steps) b) in
@@ -153,7 +153,7 @@ module _ (vs l d : List ℕ) where
 
     -- the processes that decide while some steps are taken are those that their counts add
     pub run-decided : (a : State) (ss : List Step) → Reached a
-        → decidedIn (after a ss .group) ≡ decidedIn (a .group) + total (λ x. bitOf (x .decided)) (answers a ss)
+        → deciders (after a ss .group) ≡ deciders (a .group) + total (λ x. bitOf (x .decided)) (answers a ss)
     unfolding after answers total
     run-decided a [] r = omega arith
     run-decided a (s ∷ ss) r = let rest = run-decided (next a s) ss (reached-next a s r) in omega (arith, next-decided a s r)

@@ -20,7 +20,7 @@ use Rattle.rules.specs.declared.step.Step.{Step}
 use Rattle.rules.proofs.Cited.{or-left, or-right, among-in, deep-keeps, deep-sound-step, deep-sized-step, deep-step-length, depths-step-length, Starting, deep-starting}
 use Rattle.schedule.specs.Schedule.{Schedule, Reading, faulty, sound, readFile, Fits, noFault}
 use Rattle.schedule.specs.Run.{countsOf, hasRun, notRun, runBy, runOf, begins, between}
-use Rattle.schedule.specs.Run.{outcome as ranTo}
+use Rattle.schedule.specs.Run.{ranOver}
 use Rattle.schedule.specs.Private.{counted, countedAll, refusedAll, FormGood, FormCase, FormIs, RunReady, stateWith, RanSteps, RanTo, BothReady, RanBoth, BothRan, SoundRan}
 use Rattle.schedule.specs.declared.counts.Counts.{Counts}
 use Rattle.schedule.specs.declared.fault.Fault.{Fault}
@@ -201,16 +201,16 @@ module _ (s : List ℕ) (n : ℕ) (vs : List ℕ) (p : Places) (h : FormGood s n
       }
 
   module _ (r : Ran) (l′ d′ : List ℕ) where
-    has-run : RanBoth (h .warmup) (h .measured) g l₁ d₁ r l′ d′ → ranTo r l′ d′ ≡ runBy (sound schedule) l d
+    has-run : RanBoth (h .warmup) (h .measured) g l₁ d₁ r l′ d′ → ranOver r l′ d′ ≡ runBy (sound schedule) l d
     unfolding runBy hasRun
     has-run b =
         let from : stateWith g l₁ d₁ ≡ begins schedule l d = sym begun-is in
         let end : stateWith (r .group) l′ d′ ≡ after (between schedule l d) (h .measured) = b .state ∙ ap (λ (t : State). after (after t (h .warmup)) (h .measured)) from in
         let one : r .warmup ≡ countsOf (begins schedule l d) (h .warmup) = b .warmup ∙ ap (λ (t : State). countsOf t (h .warmup)) from in
         let two : r .measured ≡ countsOf (between schedule l d) (h .measured) = b .measured ∙ ap (λ (t : State). countsOf (after t (h .warmup)) (h .measured)) from in
-        λ k. ranTo (record { fault = b .fault k; warmup = one k; measured = two k; group = end k .group }) (end k .store) (end k .depths)
+        λ k. ranOver (record { fault = b .fault k; warmup = one k; measured = two k; group = end k .group }) (end k .store) (end k .depths)
 
-    any-schedule : ranTo r l′ d′ ≡ runBy (sound schedule) l d → SoundRan s l d r l′ d′
+    any-schedule : ranOver r l′ d′ ≡ runBy (sound schedule) l d → SoundRan s l d r l′ d′
     any-schedule b k q = b ∙ ap (λ (t : Schedule). runBy (sound t) l d) (same-schedule (sym (h .is) ∙ q))
 
     pub sound-both : BothRan s p g l₁ d₁ r l′ d′ → SoundRan s l d r l′ d′
@@ -241,11 +241,11 @@ module _ (s : List ℕ) (r : Form) (h : FormIs s r) where
   form-bad true e z c = let y : _≡_ {A = ℕ} 0 1 = cc in absurd (omega arith)
   form-bad false e z c = c
 
-  pub run-bad : r .fault .number ≢ 0 → (q : Ran) (l d : List ℕ) → q ≡ notRun (r .fault) → ranTo q l d ≡ runOf s l d
+  pub run-bad : r .fault .number ≢ 0 → (q : Ran) (l d : List ℕ) → q ≡ notRun (r .fault) → ranOver q l d ≡ runOf s l d
   unfolding runOf runBy FormIs
   run-bad ne q l d e =
       let w : readFile s ≡ faulty (r .fault) = form-bad (eqb (r .fault .number) 0) refl (ne-eqb (r .fault .number) 0 ne) h in
-      ap (λ (t : Ran). ranTo t l d) e ∙ ap (λ (t : Reading). runBy t l d) (sym w)
+      ap (λ (t : Ran). ranOver t l d) e ∙ ap (λ (t : Reading). runBy t l d) (sym w)
 
   form-good : (b : Bool) → eqb (r .fault .number) 0 ≡ b → r .fault .number ≡ 0 → FormCase b s r → FormGood s (r .n) (r .values) (r .places)
   unfolding FormCase
@@ -256,7 +256,7 @@ module _ (s : List ℕ) (r : Form) (h : FormIs s r) where
   unfolding FormIs
   run-form z = form-good (eqb (r .fault .number) 0) refl z h
 
-  pub run-good : r .fault .number ≡ 0 → (q : Ran) (l d l′ d′ : List ℕ) → SoundRan s l d q l′ d′ → ranTo q l′ d′ ≡ runOf s l d
+  pub run-good : r .fault .number ≡ 0 → (q : Ran) (l d l′ d′ : List ℕ) → SoundRan s l d q l′ d′ → ranOver q l′ d′ ≡ runOf s l d
   unfolding runOf
   run-good z q l d l′ d′ b =
       let w = run-form z in
