@@ -13,7 +13,7 @@ use borrow.Author.Tests.{ltb-true, ltb-false, eqb-true}
 use Rattle.text.specs.Number.{pick, most, spelled}
 use Rattle.text.specs.Put.{Puts}
 use Rattle.text.proofs.PutLaws.{spelled-long, wrote-length, wrote-byte}
-use Rattle.page.specs.Limits.{longestOf}
+use Rattle.page.specs.Private.{longestOf}
 use Rattle.page.specs.Filled.{mark, filled}
 use Rattle.page.specs.Private.{Piece, takes}
 use Rattle.page.proofs.PieceLaws.{piece-none, piece-put, piece-more, piece-within}

@@ -22,7 +22,7 @@ use Rattle.text.proofs.PutLaws.{wrote-length, wrote-same, wrote-first}
 use Rattle.schedule.specs.Schedule.{Reading, faulty, sound, readFile}
 use Rattle.schedule.specs.Run.{RanOver, ranOver, runBy, runOf, hasRun, notRun, begins, between}
 use Rattle.schedule.specs.declared.run.Ran.{Ran}
-use Rattle.page.specs.Limits.{longestStatus, longestEstimate, longestEnd, longestLine}
+use Rattle.page.specs.Private.{longestStatus, longestEstimate, longestEnd, longestLine}
 use Rattle.page.specs.Report.{faultLine, statusPart, estimatePart, endPart, processLine, lineOfProcess, processLines, doneText, reportOf, Reports}
 use Rattle.page.specs.Private.{Piece}
 use Rattle.page.proofs.PieceLaws.{piece-more, piece-within}

@@ -1,7 +1,5 @@
 -- The meaning of a report's bytes, in document 01's words: what a reader must believe. Read it in this order with document 01 beside it.
 
--- how long lines and reports can be
-pub mod Limits
 -- a line by its template
 pub mod Filled
 -- the report's bytes

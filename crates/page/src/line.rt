@@ -4,7 +4,7 @@ ghost use mathlib.Core.Path.{_≡_};
 ghost use Prim.Native.Nat.{_+_, _≤_, max};
 ghost use lib.ListN.{length};
 ghost use Rattle.text.specs.Number.{pick};
-ghost use Rattle.page.specs.Limits.{longestOf};
+ghost use Rattle.page.specs.Private.{longestOf};
 ghost use Rattle.page.specs.Filled.{filled};
 ghost use Rattle.page.specs.Private.{Piece, takes};
 use text::put::put_number;

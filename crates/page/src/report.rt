@@ -4,7 +4,7 @@ ghost use mathlib.Core.Path.{_≡_};
 ghost use Prim.Native.Nat.{_+_, _*_, _≤_};
 ghost use lib.ListN.{length};
 ghost use Rattle.rules.specs.Limits.{greatestSize};
-ghost use Rattle.page.specs.Limits as limits;
+ghost use Rattle.page.specs.Private as limits;
 ghost use Rattle.page.specs.Report as reports;
 ghost use Rattle.page.specs.Private.{Piece};
 use crate::line::fill;

@@ -18,7 +18,8 @@ use Rattle.rules.specs.declared.step.Step.{Step}
 use Rattle.rules.proofs.Cited.{deep-more, safety}
 use Rattle.text.specs.Number.{most}
 use Rattle.schedule.specs.Counts.{countsIn}
-use Rattle.schedule.specs.Schedule.{Schedule, Reading, sound, readFile, Every, Fits}
+use Rattle.schedule.specs.Schedule.{Schedule, Reading, sound, readFile, Fits}
+use Rattle.schedule.specs.Lines.{Every}
 use Rattle.schedule.specs.Run.{ranOver, countsOf, begins, between, atEnd, hasRun, runBy, runOf}
 use Rattle.schedule.specs.Promise.{AddsUp, deciders, Promise, Promised}
 use Rattle.schedule.proofs.RoundTrip.File.{file-read}

@@ -7,8 +7,9 @@ use lib.Dec.{eqb, ltb}
 use lib.ListN.{getD}
 use Rattle.rules.specs.declared.step.Step.{Step}
 use Rattle.rules.specs.declared.step.Step.the-variants.{DeliverE, DeliverS, DeliverF, DeliverDecision, Suspect, Pause, Crash, Recover}
+use Rattle.rules.specs.Kinds.{numbersOf, roundOf}
 use Rattle.text.specs.Number.{pick, most, numberAt, spelled}
-use Rattle.schedule.specs.Lines.{Item, broken, item}
+use Rattle.schedule.specs.Lines.{Every, Item, broken, item}
 use Rattle.text.specs.declared.number.Number.{Number}
 use Rattle.text.specs.declared.number.Number.the-variants.{Bad, Value}
 use Rattle.schedule.specs.declared.line.Line.{Line}
@@ -74,14 +75,7 @@ lineOf (Recover i) = letterR ∷ spaced i (ending false)
 
 -- each number of a step is one that a file can hold
 abbrev pub Holdable : Step → Type 0
-Holdable (DeliverE i j r x) = (i ≤ most) × (j ≤ most) × (r ≤ most)
-Holdable (DeliverS i j r x) = (i ≤ most) × (j ≤ most) × (r ≤ most)
-Holdable (DeliverF i j r x) = (i ≤ most) × (j ≤ most) × (r ≤ most)
-Holdable (DeliverDecision i j x) = (i ≤ most) × (j ≤ most)
-Holdable (Suspect i x) = i ≤ most
-Holdable (Pause i) = i ≤ most
-Holdable (Crash i) = i ≤ most
-Holdable (Recover i) = i ≤ most
+Holdable s = Every (λ n. n ≤ most) (numbersOf s) × (roundOf s ≤ most)
 
 -- ---- how it is read
 

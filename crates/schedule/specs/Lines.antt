@@ -2,6 +2,11 @@
 use mathlib.Core.List.{List, [], _∷_, _++_}
 use Prim.Native.Nat.{ℕ, zero, suc, _+_}
 
+-- every thing of a list is so
+unfoldable pub Every : {A : Type 0} → (A → Type 0) → List A → Type 0
+Every P [] = Unit {0}
+Every P (x ∷ xs) = P x × Every P xs
+
 -- what stands at a place as one line: a thing and the place after its line, or a line that breaks the form
 pub data Item (A : Type 0) : Type 0 where
   broken : Item A

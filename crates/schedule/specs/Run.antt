@@ -55,7 +55,3 @@ runBy (sound h) l d = ranOver (hasRun h l d) (atEnd h l d .store) (atEnd h l d .
 
 unfoldable pub runOf : List ℕ → List ℕ → List ℕ → RanOver
 runOf s l d = runBy (readFile s) l d
-
--- the contract of the run: what it answers and what both stores then hold are just what the run yields
-abbrev pub Runs : List ℕ → List ℕ → List ℕ → Ran → List ℕ → List ℕ → Type 0
-Runs s l d r after′ deep′ = ranOver r after′ deep′ ≡ runOf s l d

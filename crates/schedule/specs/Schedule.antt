@@ -7,7 +7,7 @@ use Rattle.rules.specs.Limits.{greatestSize, among}
 use Rattle.rules.specs.declared.step.Step.{Step}
 use Rattle.schedule.specs.Limits.{longest, mostSteps}
 use Rattle.text.specs.Number.{pick, most}
-use Rattle.schedule.specs.Lines.{onItems, linesAt, linesOf}
+use Rattle.schedule.specs.Lines.{Every, onItems, linesAt, linesOf}
 use Rattle.schedule.specs.Line.{onNumber, lineAt, lineOf, Holdable}
 use Rattle.schedule.specs.Header.{headerAt, headerOf, valuesWord, warmupWord, measuredWord}
 use Rattle.schedule.specs.Values.{valueAt, valueLine}
@@ -28,11 +28,6 @@ sectionOf w f xs = headerOf w (length xs) ++ linesOf f xs
 -- "Sections in a fixed order, each after its count: VALUES, then one value a line; WARMUP, then its steps; MEASURED, then its steps."
 abbrev pub fileOf : Schedule → List ℕ
 fileOf h = sectionOf valuesWord valueLine (h .values) ++ (sectionOf warmupWord lineOf (h .warmup) ++ sectionOf measuredWord lineOf (h .measured))
-
--- every thing of a list is so
-unfoldable pub Every : {A : Type 0} → (A → Type 0) → List A → Type 0
-Every P [] = Unit {0}
-Every P (x ∷ xs) = P x × Every P xs
 
 -- a schedule that a file can hold
 pub record Fits (h : Schedule) : Type 0 where

@@ -165,7 +165,7 @@ pub(crate) fn run_sound(
 
 // Runs a schedule file over a lent store and the lent depths of its messages. A faulty file runs no step, and leaves both as they were.
 pub fn run(file: &[u8], store: &mut [u64], depths: &mut [u16]) -> Ran
-    ensures { λ r. ⌜ runs.Runs (now (file .entry)) (now (store .entry)) (now (depths .entry)) r (now (store .exit)) (now (depths .exit)) ⌝ }
+    ensures { λ r. ⌜ runs.ranOver r (now (store .exit)) (now (depths .exit)) ≡ runs.runOf (now (file .entry)) (now (store .entry)) (now (depths .entry)) ⌝ }
 {
     let form = form_of(file);
     let fault = form.fault;

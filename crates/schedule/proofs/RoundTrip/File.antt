@@ -20,7 +20,8 @@ use Rattle.schedule.specs.Lines.{Items, brokenAt, items, onItems, linesA
 use Rattle.schedule.specs.Line.{onNumber, lineAt, lineOf, Holdable}
 use Rattle.schedule.specs.Header.{headerAt, headerOf, valuesWord, warmupWord, measuredWord}
 use Rattle.schedule.specs.Values.{valueAt, valueLine}
-use Rattle.schedule.specs.Schedule.{Schedule, sectionOf, fileOf, Every, Fits, Reading, faulty, sound, faultAt, Part, noPart, part, onPart, partAt, measuredFrom, warmupFrom, valuesFrom, readFile}
+use Rattle.schedule.specs.Schedule.{Schedule, sectionOf, fileOf, Fits, Reading, faulty, sound, faultAt, Part, noPart, part, onPart, partAt, measuredFrom, warmupFrom, valuesFrom, readFile}
+use Rattle.schedule.specs.Lines.{Every}
 use Rattle.schedule.specs.declared.fault.Fault.{Fault}
 use Rattle.text.specs.declared.number.Number.{Number}
 use Rattle.text.specs.declared.number.Number.the-variants.{Bad, Value}

@@ -6,7 +6,7 @@ use native.Mathlib.Omega.{arith}
 use lib.ListN.{length}
 use Rattle.text.specs.Stands.{Stands}
 use Rattle.schedule.specs.Lines.{Item, broken, item, onItem, Items, brokenAt, items, before, linesAt, linesOf}
-use Rattle.schedule.specs.Schedule.{Every}
+use Rattle.schedule.specs.Lines.{Every}
 use Rattle.schedule.proofs.Reading.InARow.{lines-none}
 use Rattle.text.proofs.StandsLaws.{stands-none, stands-join, stands-first, stands-rest}
 

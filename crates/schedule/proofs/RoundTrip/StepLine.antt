@@ -12,6 +12,8 @@ use Rattle.rules.specs.declared.step.Step.the-variants.{DeliverE, DeliverS, Del
 use Rattle.text.specs.Number.{pick, isDigit, most, numberAt, spelled}
 use Rattle.text.specs.Stands.{Stands}
 use Rattle.schedule.specs.Lines.{Item, broken, item}
+use Rattle.rules.specs.Kinds.{numbersOf, roundOf}
+use Rattle.schedule.specs.Lines.{Every}
 use Rattle.schedule.specs.Line.{ending, spaced, lineOf, Holdable, numbersAfter, mayCut, stepOf, onNumber, End, noEnd, ends, onEnd, spacedAt, nextNumber, endAt, afterLetter, lineAt}
 use Rattle.text.specs.declared.number.Number.{Number}
 use Rattle.text.specs.declared.number.Number.the-variants.{Bad, Value}
@@ -53,36 +55,36 @@ record Letter (b : ℕ) : Type 0 where
   line : (i j r : ℕ) (x : Bool) → Body b i j r x → lineOf (stepOf b i j r x) ≡ b ∷ bodyOf b i j r x
 
 three-69 : Letter 69
-unfolding numbersAfter mayCut stepOf
-three-69 = record { byte = omega arith; holds = λ i j r x h. (h .first, h .second, h .third); line = λ i j r x h. refl }
+unfolding numbersAfter mayCut stepOf Every numbersOf roundOf
+three-69 = record { byte = omega arith; holds = λ i j r x h. ((h .first, (h .second, tt)), h .third); line = λ i j r x h. refl }
 
 three-83 : Letter 83
-unfolding numbersAfter mayCut stepOf
-three-83 = record { byte = omega arith; holds = λ i j r x h. (h .first, h .second, h .third); line = λ i j r x h. refl }
+unfolding numbersAfter mayCut stepOf Every numbersOf roundOf
+three-83 = record { byte = omega arith; holds = λ i j r x h. ((h .first, (h .second, tt)), h .third); line = λ i j r x h. refl }
 
 three-70 : Letter 70
-unfolding numbersAfter mayCut stepOf
-three-70 = record { byte = omega arith; holds = λ i j r x h. (h .first, h .second, h .third); line = λ i j r x h. refl }
+unfolding numbersAfter mayCut stepOf Every numbersOf roundOf
+three-70 = record { byte = omega arith; holds = λ i j r x h. ((h .first, (h .second, tt)), h .third); line = λ i j r x h. refl }
 
 two-90 : Letter 90
-unfolding numbersAfter mayCut stepOf
-two-90 = record { byte = omega arith; holds = λ i j r x h. (h .first, h .second); line = λ i j r x h. refl }
+unfolding numbersAfter mayCut stepOf Every numbersOf roundOf
+two-90 = record { byte = omega arith; holds = λ i j r x h. ((h .first, (h .second, tt)), omega arith); line = λ i j r x h. refl }
 
 one-81 : Letter 81
-unfolding numbersAfter mayCut stepOf
-one-81 = record { byte = omega arith; holds = λ i j r x h. h .first; line = λ i j r x h. refl }
+unfolding numbersAfter mayCut stepOf Every numbersOf roundOf
+one-81 = record { byte = omega arith; holds = λ i j r x h. ((h .first, tt), omega arith); line = λ i j r x h. refl }
 
 one-80 : Letter 80
-unfolding numbersAfter mayCut stepOf
-one-80 = record { byte = omega arith; holds = λ i j r x h. h .first; line = λ i j r x h. ap (λ (y : Bool). 80 ∷ spaced i (ending y)) (sym (h .cut)) }
+unfolding numbersAfter mayCut stepOf Every numbersOf roundOf
+one-80 = record { byte = omega arith; holds = λ i j r x h. ((h .first, tt), omega arith); line = λ i j r x h. ap (λ (y : Bool). 80 ∷ spaced i (ending y)) (sym (h .cut)) }
 
 one-67 : Letter 67
-unfolding numbersAfter mayCut stepOf
-one-67 = record { byte = omega arith; holds = λ i j r x h. h .first; line = λ i j r x h. ap (λ (y : Bool). 67 ∷ spaced i (ending y)) (sym (h .cut)) }
+unfolding numbersAfter mayCut stepOf Every numbersOf roundOf
+one-67 = record { byte = omega arith; holds = λ i j r x h. ((h .first, tt), omega arith); line = λ i j r x h. ap (λ (y : Bool). 67 ∷ spaced i (ending y)) (sym (h .cut)) }
 
 one-82 : Letter 82
-unfolding numbersAfter mayCut stepOf
-one-82 = record { byte = omega arith; holds = λ i j r x h. h .first; line = λ i j r x h. ap (λ (y : Bool). 82 ∷ spaced i (ending y)) (sym (h .cut)) }
+unfolding numbersAfter mayCut stepOf Every numbersOf roundOf
+one-82 = record { byte = omega arith; holds = λ i j r x h. ((h .first, tt), omega arith); line = λ i j r x h. ap (λ (y : Bool). 82 ∷ spaced i (ending y)) (sym (h .cut)) }
 
 -- a byte is the letter k or another
 or-other : (b k : ℕ) → Letter k → (eqb b k ≡ false → Letter b) → Letter b
@@ -186,15 +188,15 @@ module _ (s : List ℕ) where
 
   -- the line of a step is read as that step, up to its end
   pub line-spelled : (at m : ℕ) (st : Step) → Holdable st → Stands s at m (lineOf st) → lineAt s at ≡ item st m
-  unfolding numbersAfter mayCut stepOf
-  line-spelled at m (DeliverE i j r x) h p = lettered 69 at m i j r x refl (record { first = h .0; second = h .1; third = h .2; cut = tt }) p
-  line-spelled at m (DeliverS i j r x) h p = lettered 83 at m i j r x refl (record { first = h .0; second = h .1; third = h .2; cut = tt }) p
-  line-spelled at m (DeliverF i j r x) h p = lettered 70 at m i j r x refl (record { first = h .0; second = h .1; third = h .2; cut = tt }) p
-  line-spelled at m (DeliverDecision i j x) h p = lettered 90 at m i j 0 x refl (record { first = h .0; second = h .1; third = refl; cut = tt }) p
-  line-spelled at m (Suspect i x) h p = lettered 81 at m i 0 0 x refl (record { first = h; second = refl; third = refl; cut = tt }) p
-  line-spelled at m (Pause i) h p = lettered 80 at m i 0 0 false refl (record { first = h; second = refl; third = refl; cut = refl }) p
-  line-spelled at m (Crash i) h p = lettered 67 at m i 0 0 false refl (record { first = h; second = refl; third = refl; cut = refl }) p
-  line-spelled at m (Recover i) h p = lettered 82 at m i 0 0 false refl (record { first = h; second = refl; third = refl; cut = refl }) p
+  unfolding numbersAfter mayCut stepOf Every numbersOf roundOf
+  line-spelled at m (DeliverE i j r x) h p = lettered 69 at m i j r x refl (record { first = h .0 .0; second = h .0 .1 .0; third = h .1; cut = tt }) p
+  line-spelled at m (DeliverS i j r x) h p = lettered 83 at m i j r x refl (record { first = h .0 .0; second = h .0 .1 .0; third = h .1; cut = tt }) p
+  line-spelled at m (DeliverF i j r x) h p = lettered 70 at m i j r x refl (record { first = h .0 .0; second = h .0 .1 .0; third = h .1; cut = tt }) p
+  line-spelled at m (DeliverDecision i j x) h p = lettered 90 at m i j 0 x refl (record { first = h .0 .0; second = h .0 .1 .0; third = refl; cut = tt }) p
+  line-spelled at m (Suspect i x) h p = lettered 81 at m i 0 0 x refl (record { first = h .0 .0; second = refl; third = refl; cut = tt }) p
+  line-spelled at m (Pause i) h p = lettered 80 at m i 0 0 false refl (record { first = h .0 .0; second = refl; third = refl; cut = refl }) p
+  line-spelled at m (Crash i) h p = lettered 67 at m i 0 0 false refl (record { first = h .0 .0; second = refl; third = refl; cut = refl }) p
+  line-spelled at m (Recover i) h p = lettered 82 at m i 0 0 false refl (record { first = h .0 .0; second = refl; third = refl; cut = refl }) p
 
 -- ---- what is read is spelled: a property of what is found, for each case of it
 

@@ -4,7 +4,7 @@ use mathlib.Core.Path.{_≡_, ap}
 use native.Mathlib.Omega.{arith}
 use denote.Ref.{now}
 use borrow.Author.Needs.{needs}
-use Rattle.page.specs.Limits.{longestLine}
+use Rattle.page.specs.Private.{longestLine}
 use Rattle.page.specs.Report.{processLines}
 use Rattle.page.specs.Private.{Piece}
 use Rattle.text.proofs.PutLaws.{wrote-length}

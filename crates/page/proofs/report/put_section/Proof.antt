@@ -1,6 +1,6 @@
 -- `report::put_section` meets its contract: the word and the counts behind it are one piece. Assumes nothing.
 use native.Mathlib.Omega.{arith}
-use Rattle.page.specs.Limits.{longestOf, longestWord}
+use Rattle.page.specs.Private.{longestOf, longestWord}
 use Rattle.page.specs.Report.{sectionLine}
 use Rattle.page.proofs.PieceLaws.{piece-put, piece-more, room-behind}
 use borrow.Author.Needs.{needs}
