@@ -8,8 +8,11 @@
 #   a pipe with one byte at a time, or in two halves the whole report, as from a file
 #   100 MB, input without end                        BAD 10 0 at once, without reading it all
 #   NUL bytes                                        BAD 9 with the line
-#   sweep: missing, folder, no permission, no name   "NAME: cannot be read", and the next files are answered
-#   model steps: the same, and BAD files             named on a line of their own, and status 1
+#   sweep: missing, folder, no permission, no name   "NAME: cannot be read", and the next files are answered;
+#                                                    model says why on standard error, and ends with 2
+#   BAD files                                        named with that line, and status 1
+#   a program that is missing, stale or truncated    built, which is said in a few lines; a stand-in for the
+#                                                    toolchain is used here, so that nothing is proved
 set -u
 root=$(dirname "$(dirname "$(readlink -f "$0")")")
 model=$root/model
@@ -147,6 +150,8 @@ try "$model" report "$example";                             check "model report,
 
 # Communication steps
 bars='
+0 of 2 decisions are of the warm-up
+
 depth 2  decided 1  #
 depth 3  decided 1  #'
 try "$model" steps;                                         check "model steps, no files" 2 ''
@@ -160,7 +165,7 @@ printf '\0' > nul
 try "$model" steps nul;                                     check "model steps, a BAD file" 1 'nul: BAD 9 1
 no process decided'
 try "$model" steps folder missing '' nul 'a name with spaces' undecided
-check "model steps, a folder, a missing file, an empty name, a BAD file, a name with spaces" 1 "folder: cannot be read
+check "model steps, a folder, a missing file, an empty name, a BAD file, a name with spaces" 2 "folder: cannot be read
 missing: cannot be read
 : cannot be read
 nul: BAD 9 1
@@ -170,11 +175,13 @@ $bars"
 cp "$example" 'BAD 9 1'
 cp "$example" 'x: cannot be read'
 try "$model" steps 'BAD 9 1' x 'x: cannot be read'
-check "model steps, names like the lines of an answer" 1 'BAD 9 1            process 2  value 7  depth 2
+check "model steps, names like the lines of an answer" 2 'BAD 9 1            process 2  value 7  depth 2
 BAD 9 1            process 3  value 7  depth 3
 x: cannot be read
 x: cannot be read  process 2  value 7  depth 2
 x: cannot be read  process 3  value 7  depth 3
+
+0 of 4 decisions are of the warm-up
 
 depth 2  decided 2  ##
 depth 3  decided 2  ##'
@@ -199,6 +206,175 @@ tail -n 3 out > part && mv part out;                        check "model steps, 
 depth 2 to 8  decided 0
 depth 9  decided 1  #"
 
+# said TEXT..: standard error of the last try has these words; else the next check fails.
+said() { local word; for word in "$@"; do grep -qF -- "$word" err || echo "standard error lacks: $word" >> out; done; }
+# quiet_but COUNT: it has at most so many lines.
+quiet_but() { [ "$(wc -l < err)" -le "$1" ] || echo "standard error has $(wc -l < err) lines" >> out; }
+
+# One rule for the status: 1 for a BAD file, 2 for one that cannot be read
+try "$model" sweep nul "$example";                          check "model sweep, a BAD file and a good one" 1 "nul
+BAD 9 1
+$example
+$expected"
+try "$model" sweep nul missing folder '' "$example"
+said 'missing: there is no such file' 'folder: is a folder'
+check "model sweep, files that cannot be read, and why" 2 "nul
+BAD 9 1
+missing: cannot be read
+folder: cannot be read
+: cannot be read
+$example
+$expected"
+try "$model" steps astray missing; said 'astray: is a link to nothing' 'missing: there is no such file'
+check "model steps, files that cannot be read, and why" 2 'astray: cannot be read
+missing: cannot be read
+no process decided'
+# The warm-up's decisions
+printf 'VALUES 1\n7\nWARMUP 1\nE 1 1 0\nMEASURED 0\n' > early
+try "$model" steps early one;                               check "model steps, a decision of the warm-up" 0 'early  process 1  value 7  depth 1
+one    process 1  value 7  depth 1
+
+1 of 2 decisions are of the warm-up, and are counted below:
+  1 in early
+
+depth 1  decided 2  ##'
+# Names
+long=$(printf 'n%.0s' {1..5000})
+try "$model" steps "$long" one;                             check "model steps, a name of 5,000 bytes" 2 "${long:0:4096}: cannot be read
+one  process 1  value 7  depth 1
+
+0 of 1 decisions are of the warm-up
+
+depth 1  decided 1  #"
+cp one 'ünïcödé'
+cp one ./-dash
+try "$model" steps -- 'ünïcödé' one -dash;                  check "model steps, names that are not ASCII, and one behind --" 0 'ünïcödé  process 1  value 7  depth 1
+one      process 1  value 7  depth 1
+-dash    process 1  value 7  depth 1
+
+0 of 3 decisions are of the warm-up
+
+depth 1  decided 3  ###'
+try "$model" report - < "$example";                         check "model report, - for standard input" 0 "$expected"
+try "$model" sweep - one < "$example";                      check "model sweep, - for standard input" 0 "/dev/stdin
+$expected
+one
+$(sed -n '2,$p' <<< "$("$model" run sweep one)")"
+try "$model" sweep - - < "$example"; said 'standard input is named twice'; check "model sweep, standard input twice" 2 ''
+try "$model" report -x; said 'report has no option -x';     check "model report, an option that it has not" 2 ''
+try "$model" report one five; said 'report takes one file'; check "model report, two files" 2 ''
+try "$model" frobnicate; said 'there is no word frobnicate'; check "model, a word that it has not" 2 ''
+try "$model" compare 0 1; said '0 is no count';             check "model compare, a count of 0" 2 ''
+try "$model" compare 5 1 --error none; said 'knows no error none'; check "model compare, an error that it has not" 2 ''
+# Help and version
+try "$model" help steps; grep -q '^model steps' out && echo steps > out; check "model help steps" 0 steps
+try "$model" sweep --help; grep -q '^model sweep' out && echo sweep > out; check "model sweep --help" 0 sweep
+try "$model" --version; grep -q '^commit ' out && grep -qF "$(rt version)" out && echo version > out; check "model --version" 0 version
+# What cannot be written
+timeout 10 "$model" report missing > out 2>&-; status=$?;   check "model report, a missing file, standard error closed" 2 ''
+timeout 10 "$model" > /dev/full 2> err; status=$?; : > out; check "model, full disk" 2 ''
+# A reader that goes away
+for word in sweep steps; do
+  timeout 10 "$model" $word "${many[@]}" 2> err | head -n 1 > out; status=0
+  quiet_but 0
+  check "model $word, a reader that goes away" 0 "$([ $word = sweep ] && echo "$example" || echo "$example  process 2  value 7  depth 2")"
+done
+# What is wrong with a file, where standard error is a terminal
+printf 'VALUES 1\r\n7\r\n' > crlf
+printf 'VALUES 1\n7\nWARMUP 0\n' > short
+printf 'VALUES 1\n7\nWARMUP 0\nMEASURED 0' > open_end
+printf 'VALUES 17\n' > many_values
+if command -v script > /dev/null; then
+  for pair in 'crlf:1: this line ends in CR LF' 'short:4: this line is missing' 'open_end:4: the last line does not end in LF' 'many_values:1: there must be 1 to 16 values'; do
+    for word in report sweep steps; do
+      timeout 10 script -qec "'$model' $word ${pair%%:*}" /dev/null < /dev/null > said; status=$?
+      grep -qF "$pair; see docs/FORMAT.md" said && echo hint > out || cat said > out
+      check "model $word, on a terminal: $pair" 1 hint
+    done
+  done
+fi
+try "$model" report crlf; quiet_but 0;                      check "model report, not on a terminal" 1 'BAD 9 1'
+
+# compare says what it does, and leaves nothing behind where it is stopped
+if command -v rustc > /dev/null; then
+  mkdir temporary
+  TMPDIR=$work/temporary timeout 60 "$model" compare 5 1 > out 2> err; status=$?
+  said 'generating 5 schedules'
+  tail -n 1 out > part && cat err > /dev/null && mv part out; check "model compare" 0 '5 passed, 0 failed'
+  (TMPDIR=$work/temporary exec "$model" compare 200000 1 > /dev/null 2> err) &
+  pid=$!
+  for ((i = 0; i < 100; i++)); do grep -q generating err && break; sleep 0.05; done
+  sleep 0.3
+  kill -TERM $pid; wait $pid; status=$?
+  { ls temporary; pgrep -f "$work/temporary" || :; } > out; check "model compare, stopped" 143 ''
+fi
+
+# Building, with a stand-in for the toolchain: its prover says a few lines and makes a script of a source
+kit=$work/kit checkout=$work/checkout
+mkdir -p "$kit/bin" "$kit/toolchain/lib" "$kit/on/$(uname -m)/toolchain/bin" "$checkout/crates/report/src" "$checkout/crates/below/specs"
+echo 'stand-in 1' > "$kit/version"
+cat > "$kit/bin/rt" << 'END'
+#!/usr/bin/env bash
+kit=$(dirname "$(dirname "$(readlink -f "$0")")")
+[ "$1" != version ] || { cat "$kit/version"; exit; }
+echo "a/Proof.antt:1:1: note: something that looks like an error"
+echo "rt: below proved (1 s)"
+echo $$ >> "$kit/builds"
+[ ! -e "$kit/slow" ] || sleep 30
+! grep -q BROKEN "crates/$2/src/main.rt" || { echo "rt: FAILED: $2"; exit 1; }
+mkdir -p target/bin
+printf 'echo "made of %s"\n' "$(cat "crates/$2/src/main.rt" crates/below/specs/*)" | tr '\n' ' ' > "target/bin/$2"
+echo "rt: $2 proved (2 s)"
+END
+printf '#!/usr/bin/env bash\nshift 2\nexec bash "$@"\n' > "$kit/toolchain/lib/ld-linux-x86-64.so.2"
+printf '#!/usr/bin/env bash\nexec "$@"\n' > "$kit/on/$(uname -m)/toolchain/bin/qemu-x86_64"
+chmod +x "$kit/bin/rt" "$kit/toolchain/lib/ld-linux-x86-64.so.2" "$kit/on/$(uname -m)/toolchain/bin/qemu-x86_64"
+cp "$model" "$checkout/model"
+printf 'below:\nreport: below\n' > "$checkout/crates.txt"
+echo one > "$checkout/crates/report/src/main.rt"
+echo low > "$checkout/crates/below/specs/Lib.antt"
+builds() { wc -l < "$kit/builds"; }
+built() { PATH=$kit/bin:$PATH try "$checkout/model" report < /dev/null; }
+: > "$kit/builds"
+built; said 'not built yet' 'below proved' 'build-report.log'; quiet_but 4; check "model, the first build" 0 'made of one low'
+built; quiet_but 0; builds >> out;                          check "model, built already" 0 'made of one low
+1'
+echo two > "$checkout/crates/report/src/main.rt"
+built; said 'made of other sources';                        check "model, another source" 0 'made of two low'
+echo lower > "$checkout/crates/below/specs/Lib.antt"
+built; said 'made of other sources';                        check "model, another definition below" 0 'made of two lower'
+printf 'below:\n\nreport: below\n' > "$checkout/crates.txt"
+built; said 'made of other sources';                        check "model, another crates.txt" 0 'made of two lower'
+echo 'stand-in 2' > "$kit/version"
+built; said 'made of other sources';                        check "model, another toolchain" 0 'made of two lower'
+: > "$checkout/target/bin/report"
+built; said 'made of other sources'; builds >> out;         check "model, a truncated program" 0 'made of two lower
+6'
+echo BROKEN > "$checkout/crates/report/src/main.rt"
+built; said 'could not be built';                           check "model, a broken source" 2 ''
+echo two > "$checkout/crates/report/src/main.rt"
+rm -rf "$checkout/target"
+: > "$kit/builds"
+PATH=$kit/bin:$PATH timeout 20 "$checkout/model" report < /dev/null > first 2> /dev/null &
+PATH=$kit/bin:$PATH timeout 20 "$checkout/model" report < /dev/null > second 2> /dev/null &
+wait
+status=0
+{ cat first second; builds; } > out;                        check "model, two first calls at once" 0 'made of two lower
+made of two lower
+1'
+rm -rf "$checkout/target"
+: > "$kit/slow"
+: > "$kit/builds"
+PATH=$kit/bin:$PATH "$checkout/model" report < /dev/null > /dev/null 2> err &
+pid=$!
+for ((i = 0; i < 100; i++)); do [ -s "$kit/builds" ] && break; sleep 0.05; done
+kill -TERM $pid; wait $pid; status=$?
+sleep 0.2
+: > out
+case $(ps -o stat= -p "$(cat "$kit/builds")") in '' | Z*) ;; *) echo 'the prover goes on' > out ;; esac
+check "model, stopped while it builds" 143 ''
+rm -f "$kit/slow"
+
 # A file without read permission, as a user who is not root
 cp "$example" secret
 chmod 000 secret
@@ -219,10 +395,14 @@ else
   check "sweep, a file without read permission and a good one" 0 "secret: cannot be read
 open
 $expected"
+  rm -rf "$checkout/target"
+  PATH=$kit/bin:$PATH timeout 10 ${as_user[@]+"${as_user[@]}"} "$checkout/model" report < /dev/null > out 2> err; status=$?
+  said 'cannot be written'; quiet_but 1
+  check "model, not built, in a folder that cannot be written" 2 ''
   timeout 10 ${as_user[@]+"${as_user[@]}"} "$model" report secret > out 2> err; status=$?
   check "model report, a file without read permission" 2 ''
   timeout 10 ${as_user[@]+"${as_user[@]}"} "$model" steps secret open > out 2> err; status=$?
-  check "model steps, a file without read permission and a good one" 1 "secret: cannot be read
+  check "model steps, a file without read permission and a good one" 2 "secret: cannot be read
 open  process 2  value 7  depth 2
 open  process 3  value 7  depth 3
 $bars"
