@@ -1,4 +1,4 @@
--- The meaning of a report's bytes, in document 01's words: what a reader must believe. Read it in this order with document 01 beside it.
+-- The meaning of a report's bytes, in document 01's words: what a reader must believe. Read it in this order with document 01, or docs/FORMAT.md, beside it.
 
 -- a line by its template
 pub mod Filled

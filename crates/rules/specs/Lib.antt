@@ -1,4 +1,4 @@
--- The meaning of the rules, in document 01's words: what a reader must believe. Read it in this order with document 01 beside it.
+-- The meaning of the rules, in document 01's words: what a reader must believe. Read it in this order with document 01, or docs/MODEL.md, beside it.
 
 -- "Numbers"
 pub mod Limits
