@@ -50,12 +50,12 @@ taken-one o a b la lb da db e₁ e₂ =
     let same = outcome-one o e₁ e₂ in
     (λ k. record { group = same .0 k; answer = same .3 k }, same .1, same .2)
 
-pub start-one : (vs l d : List ℕ) (a b : Taken) (la lb da db : List ℕ) 
+pub start-one : (vs l d : List ℕ) (a b : Taken) (la lb da db : List ℕ)
     → outcome (a .group) la da (said (a .answer)) ≡ started vs l d → outcome (b .group) lb db (said (b .answer)) ≡ started vs l d
     → (a ≡ b) × (la ≡ lb) × (da ≡ db)
 start-one vs l d = taken-one (started vs l d)
 
-pub step-one : (g : Group) (l d : List ℕ) (s : Step) (a b : Taken) (la lb da db : List ℕ) 
+pub step-one : (g : Group) (l d : List ℕ) (s : Step) (a b : Taken) (la lb da db : List ℕ)
     → outcome (a .group) la da (said (a .answer)) ≡ stepped g l d s → outcome (b .group) lb db (said (b .answer)) ≡ stepped g l d s
     → (a ≡ b) × (la ≡ lb) × (da ≡ db)
 step-one g l d s = taken-one (stepped g l d s)

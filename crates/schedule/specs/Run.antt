@@ -1,5 +1,4 @@
 -- The run of a schedule file: the rules' run over the steps that were read, with the counts of its two sections. Assumes nothing.
-use mathlib.Core.Path.{_≡_}
 use mathlib.Core.List.{List}
 use Prim.Native.Nat.{ℕ}
 use Rattle.rules.specs.declared.step.Step.{Step}

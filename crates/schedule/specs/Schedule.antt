@@ -1,5 +1,5 @@
 -- Document 01, "The schedule file and the report": a schedule, the bytes of its file, and what is read from any file. Assumes nothing.
-use mathlib.Core.List.{List, [], _∷_, _++_}
+use mathlib.Core.List.{List, _++_}
 use Prim.Native.Nat.{ℕ, _+_, _-_, _≤_}
 use lib.Dec.{eqb, leb}
 use lib.ListN.{length}
