@@ -1,4 +1,4 @@
--- Request 2026-06: the depths of processes and messages, which count communication steps. No rule of document 01 looks at them but for its limits. Assumes nothing.
+-- Request 2026-06: the depths of processes and messages, which count communication steps. No rule of document 01 looks at them; refusals 14 and 2 keep their limits. Assumes nothing.
 use mathlib.Core.Bool.{Bool, true, false, _&&_, not}
 use mathlib.Core.List.{List}
 use Prim.Native.Nat.{ℕ, _+_, max}
@@ -14,7 +14,7 @@ use Rattle.rules.specs.Store.{placeOf, handOver}
 use Rattle.rules.specs.Kinds.{takerOf, delivers, slotOf}
 use Rattle.rules.specs.Idle.{idle}
 
--- ---- the depth of a process
+-- ---- the depth of a process: "Each process keeps a depth, 0 at start and kept through crashes and pauses"
 
 -- "Message depths live in a second lent store of 3,088 numbers", each at the place of its message: the depth of the delivered message in the store d
 unfoldable pub deliveredDepth : List ℕ → Step → ℕ
