@@ -24,7 +24,6 @@ use Rattle.rules.specs.Refusals.{row, every, short, strange, late, isRec
 use Rattle.rules.specs.Refusals.{refusal}
 use Rattle.rules.specs.Answers.{saysApplied, saysIdle, saysRefused, outcome}
 use Rattle.rules.specs.Step.{Idles, Refuses, Takes, orIdle, unlessRefused, handOvers, sentBy, decidesNow, course, settled, stepped, Ready}
-use Rattle.rules.proofs.Bare.Step.{refusalBy}
 use Rattle.rules.specs.Events.{cutIf}
 use Rattle.rules.specs.Kinds.{takerOf, numbersOf, roundOf, delivers, slotOf, isCut, entryIn, eventOf}
 use Rattle.rules.specs.Idle.{idle}
@@ -42,19 +41,19 @@ rest g l s = row (impossible g s) 7 (row (recoversPast g s) 13 (row (entersPast 
 -- rows 11, 14 and 2 fall away
 ready : (g : Group) (l d : List ℕ) (s : Step) → Ready g l d
     → refusal g l d s ≡ row (strange g s) 3 (row (late s) 4 (row (down g s) 5 (row (unsent l s) 6 (row (misnamed g l s) 2 (row (tooDeep d s) 14 (rest g l s))))))
-unfolding refusal refusalBy row short
+unfolding refusal row short
 ready g l d s h = rw (le-ltb (length l) storeLength (h .long), le-ltb (length d) storeLength (h .deep-long), h .sound)
 
 first-row : (g : Group) (l d : List ℕ) (s : Step) → short l ≡ true → refusal g l d s ≡ 11
-unfolding refusal refusalBy row
+unfolding refusal row
 first-row g l d s h = rw h
 
 second-row : (g : Group) (l d : List ℕ) (s : Step) → short l ≡ false → short d ≡ true → refusal g l d s ≡ 14
-unfolding refusal refusalBy row
+unfolding refusal row
 second-row g l d s h z = rw (h, z)
 
 third-row : (g : Group) (l d : List ℕ) (s : Step) → short l ≡ false → short d ≡ false → damaged g ≡ true → refusal g l d s ≡ 2
-unfolding refusal refusalBy row
+unfolding refusal row
 third-row g l d s h z y = rw (h, z, y)
 
 -- ---- the course that a refusal's number gives
