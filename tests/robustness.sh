@@ -22,6 +22,8 @@ trap 'chmod -R u+rwx "$work"; rm -rf "$work"' EXIT
 cd "$work" || exit 2
 passed=0
 failed=0
+# Each try below has ten seconds, which is no time to prove anything in.
+"$model" build || exit 2
 
 expected='WARMUP 1 applied 1 idle 0 refused 0 sent 0 decided 0
 MEASURED 4 applied 3 idle 0 refused 1 sent 3 decided 2
@@ -350,6 +352,11 @@ built; said 'made of other sources';                        check "model, anothe
 : > "$checkout/target/bin/report"
 built; said 'made of other sources'; builds >> out;         check "model, a truncated program" 0 'made of two lower
 6'
+# The program of this source says in which folder it runs
+echo '$PWD' > "$checkout/crates/report/src/main.rt"
+mkdir elsewhere
+(cd elsewhere && PATH=$kit/bin:$PATH timeout 10 "$checkout/model" run report < /dev/null > ../out 2> ../err); status=$?
+said 'made of other sources';                               check "model, built on the way, in the caller's folder" 0 "made of $work/elsewhere lower"
 echo BROKEN > "$checkout/crates/report/src/main.rt"
 built; said 'could not be built';                           check "model, a broken source" 2 ''
 echo two > "$checkout/crates/report/src/main.rt"

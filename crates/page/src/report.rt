@@ -4,7 +4,7 @@ ghost use mathlib.Core.Path.{_≡_};
 ghost use Prim.Native.Nat.{_+_, _*_, _≤_};
 ghost use lib.ListN.{length};
 ghost use Rattle.rules.specs.Limits.{greatestSize};
-ghost use Rattle.page.specs.Private as limits;
+ghost use Rattle.page.specs.Private as private;
 ghost use Rattle.page.specs.Report as reports;
 ghost use Rattle.page.specs.Private.{Piece};
 use crate::line::fill;
@@ -27,7 +27,7 @@ impl Report {
 
     // The constant is the definitions' limit.
     pub(crate) fn longest() -> usize
-        ensures { λ r. ⌜ r ≡ limits.longestReport ⌝ }
+        ensures { λ r. ⌜ r ≡ private.longestReport ⌝ }
     {
         Report::LONGEST
     }
@@ -35,8 +35,8 @@ impl Report {
 
 // The one line of a faulty file.
 pub(crate) fn put_fault(out: &mut [u8], at: usize, fault: Fault) -> usize
-    requires { ⌜ at + limits.longestFault ≤ length (now out) ⌝ }
-    ensures { λ r. ⌜ Piece limits.longestFault (now (out .entry)) at (reports.faultLine fault) (now (out .exit)) r ⌝ }
+    requires { ⌜ at + private.longestFault ≤ length (now out) ⌝ }
+    ensures { λ r. ⌜ Piece private.longestFault (now (out .entry)) at (reports.faultLine fault) (now (out .exit)) r ⌝ }
 {
     let number = fault.number as u32;
     let line = fault.line;
@@ -46,8 +46,8 @@ pub(crate) fn put_fault(out: &mut [u8], at: usize, fault: Fault) -> usize
 
 // A section's line behind its word.
 pub(crate) fn put_section(out: &mut [u8], at: usize, word: &[u8], c: Counts) -> usize
-    requires { ⌜ (length (now word) ≤ limits.longestWord) × (at + limits.longestSection ≤ length (now out)) ⌝ }
-    ensures { λ r. ⌜ Piece limits.longestSection (now (out .entry)) at (reports.sectionLine (now (word .entry)) c) (now (out .exit)) r ⌝ }
+    requires { ⌜ (length (now word) ≤ private.longestWord) × (at + private.longestSection ≤ length (now out)) ⌝ }
+    ensures { λ r. ⌜ Piece private.longestSection (now (out .entry)) at (reports.sectionLine (now (word .entry)) c) (now (out .exit)) r ⌝ }
 {
     let next = put_bytes(out, at, word);
     let numbers = [c.steps, c.applied, c.idle, c.refused, c.sent, c.decided];
@@ -61,8 +61,8 @@ pub(crate) fn put_section(out: &mut [u8], at: usize, word: &[u8], c: Counts) -> 
 
 // The line of process i with the record p and this depth.
 pub(crate) fn put_process(out: &mut [u8], at: usize, i: u32, p: Process, depth: u16) -> usize
-    requires { ⌜ at + limits.longestLine ≤ length (now out) ⌝ }
-    ensures { λ r. ⌜ Piece limits.longestLine (now (out .entry)) at (reports.processLine i p depth) (now (out .exit)) r ⌝ }
+    requires { ⌜ at + private.longestLine ≤ length (now out) ⌝ }
+    ensures { λ r. ⌜ Piece private.longestLine (now (out .entry)) at (reports.processLine i p depth) (now (out .exit)) r ⌝ }
 {
     let round = p.round as u32;
     let phase = p.phase as u32;
@@ -87,8 +87,8 @@ pub(crate) fn put_process(out: &mut [u8], at: usize, i: u32, p: Process, depth: 
 
 // The lines of a group's processes.
 pub(crate) fn put_processes(out: &mut [u8], at: usize, group: Group) -> usize
-    requires { ⌜ (group .n ≤ greatestSize) × (at + group .n * limits.longestLine ≤ length (now out)) ⌝ }
-    ensures { λ r. ⌜ Piece (group .n * limits.longestLine) (now (out .entry)) at (reports.processLines group (group .n)) (now (out .exit)) r ⌝ }
+    requires { ⌜ (group .n ≤ greatestSize) × (at + group .n * private.longestLine ≤ length (now out)) ⌝ }
+    ensures { λ r. ⌜ Piece (group .n * private.longestLine) (now (out .entry)) at (reports.processLines group (group .n)) (now (out .exit)) r ⌝ }
 {
     let n = group.n as u32;
     let mut i: u32 = 0;
@@ -102,8 +102,8 @@ pub(crate) fn put_processes(out: &mut [u8], at: usize, group: Group) -> usize
 
 // The report of a sound file.
 pub(crate) fn put_done(out: &mut [u8], at: usize, ran: Ran) -> usize
-    requires { ⌜ (ran .group .n ≤ greatestSize) × (at + limits.longestReport ≤ length (now out)) ⌝ }
-    ensures { λ r. ⌜ Piece limits.longestReport (now (out .entry)) at (reports.doneText ran) (now (out .exit)) r ⌝ }
+    requires { ⌜ (ran .group .n ≤ greatestSize) × (at + private.longestReport ≤ length (now out)) ⌝ }
+    ensures { λ r. ⌜ Piece private.longestReport (now (out .entry)) at (reports.doneText ran) (now (out .exit)) r ⌝ }
 {
     let warmup = ran.warmup;
     let measured = ran.measured;

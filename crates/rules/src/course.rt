@@ -12,7 +12,7 @@ ghost use Rattle.rules.specs.Idle as idleness;
 ghost use Rattle.rules.specs.Events as events;
 ghost use Rattle.rules.specs.Step as steps;
 ghost use Rattle.rules.specs.Kinds.{delivers};
-ghost use Rattle.rules.specs.Private as parts;
+ghost use Rattle.rules.specs.Private as private;
 use crate::group;
 use crate::group::Bytes;
 use crate::group::Flags;
@@ -48,7 +48,7 @@ pub enum Address {
 // The address of an E, S or F.
 pub(crate) fn message_address(n: u8, to: u32, from: u32, round: u32, kind: usize) -> Address
     requires { ⌜ (n ≤ limits.greatestSize) × (kind ≤ 2) ⌝ }
-    ensures { λ r. ⌜ r ≡ parts.unlessMissed (refusals.row (not (limits.among n to && (limits.among n from && true))) 3 (refusals.row (ltb limits.lastRound round) 4 0)) (Address.At to (stores.slot round from kind) true false) ⌝ }
+    ensures { λ r. ⌜ r ≡ private.unlessMissed (refusals.row (not (limits.among n to && (limits.among n from && true))) 3 (refusals.row (ltb limits.lastRound round) 4 0)) (Address.At to (stores.slot round from kind) true false) ⌝ }
 {
     if !group::among(n, to) {
         return Address::Misses(3);
@@ -72,7 +72,7 @@ pub(crate) fn message_address(n: u8, to: u32, from: u32, round: u32, kind: usize
 // The address of a decision.
 pub(crate) fn decision_address(n: u8, to: u32, from: u32) -> Address
     requires { ⌜ n ≤ limits.greatestSize ⌝ }
-    ensures { λ r. ⌜ r ≡ parts.unlessMissed (refusals.row (not (limits.among n to && (limits.among n from && true))) 3 0) (Address.At to (stores.decisionSlot from) true false) ⌝ }
+    ensures { λ r. ⌜ r ≡ private.unlessMissed (refusals.row (not (limits.among n to && (limits.among n from && true))) 3 0) (Address.At to (stores.decisionSlot from) true false) ⌝ }
 {
     if !group::among(n, to) {
         return Address::Misses(3);
@@ -92,7 +92,7 @@ pub(crate) fn decision_address(n: u8, to: u32, from: u32) -> Address
 
 // The address of a step of one process.
 pub(crate) fn own_address(n: u8, process: u32, recovers: bool) -> Address
-    ensures { λ r. ⌜ r ≡ parts.unlessMissed (refusals.row (not (limits.among n process && true)) 3 0) (Address.At process 0 false recovers) ⌝ }
+    ensures { λ r. ⌜ r ≡ private.unlessMissed (refusals.row (not (limits.among n process && true)) 3 0) (Address.At process 0 false recovers) ⌝ }
 {
     if !group::among(n, process) {
         return Address::Misses(3);
@@ -110,7 +110,7 @@ impl Step {
     // Where the step leads in a group of n: refusals 3 and 4, then what it reads.
     pub(crate) fn address(self, n: u8) -> Address
         requires { ⌜ n ≤ limits.greatestSize ⌝ }
-        ensures { λ r. ⌜ r ≡ parts.addressOf n self ⌝ }
+        ensures { λ r. ⌜ r ≡ private.addressOf n self ⌝ }
     {
         match self {
             Step::DeliverE {
@@ -156,7 +156,7 @@ pub(crate) fn held_refusal(
     delivers: bool,
     recovers: bool,
 ) -> u8
-    ensures { λ r. ⌜ r ≡ parts.heldRows n up entry depth delivers recovers ⌝ }
+    ensures { λ r. ⌜ r ≡ private.heldRows n up entry depth delivers recovers ⌝ }
 {
     if is_down(up, recovers) {
         return 5;
@@ -181,7 +181,7 @@ pub(crate) fn held_refusal(
 impl Process {
     // An idle delivery: nothing, and a crash where it is cut.
     pub(crate) fn idles(self, i: u8, cut: bool) -> Way
-        ensures { λ r. ⌜ r ≡ parts.lifted 0 (steps.idles cut i self) ⌝ }
+        ensures { λ r. ⌜ r ≡ private.lifted 0 (steps.idles cut i self) ⌝ }
     {
         if cut {
             Way::Takes(i, self.on_crash(), 0)
@@ -201,7 +201,7 @@ impl Process {
         lift: u32,
     ) -> Way
         requires { ⌜ (1 ≤ n) × (1 ≤ sender) × (sender ≤ limits.greatestSize) × (stores.proposerOf entry ≤ limits.greatestSize) ⌝ }
-        ensures { λ r. ⌜ r ≡ parts.lifted (parts.liftUnless (idleness.idleE self sender round) lift) (steps.orIdle (idleness.idleE self sender round) cut i self (events.onE n i sender round (stores.proposerOf entry) (stores.valueOf entry) self)) ⌝ }
+        ensures { λ r. ⌜ r ≡ private.lifted (private.liftUnless (idleness.idleE self sender round) lift) (steps.orIdle (idleness.idleE self sender round) cut i self (events.onE n i sender round (stores.proposerOf entry) (stores.valueOf entry) self)) ⌝ }
     {
         if self.idle_e(sender, round) {
             return self.idles(i, cut);
@@ -219,7 +219,7 @@ impl Process {
 
     pub(crate) fn way_s(self, n: u8, i: u8, sender: u8, round: u8, cut: bool, lift: u32) -> Way
         requires { ⌜ (1 ≤ sender) × (sender ≤ limits.greatestSize) ⌝ }
-        ensures { λ r. ⌜ r ≡ parts.lifted (parts.liftUnless (idleness.idleS self sender round) lift) (steps.orIdle (idleness.idleS self sender round) cut i self (events.onS n sender self)) ⌝ }
+        ensures { λ r. ⌜ r ≡ private.lifted (private.liftUnless (idleness.idleS self sender round) lift) (steps.orIdle (idleness.idleS self sender round) cut i self (events.onS n sender self)) ⌝ }
     {
         if self.idle_s(sender, round) {
             return self.idles(i, cut);
@@ -240,7 +240,7 @@ impl Process {
         lift: u32,
     ) -> Way
         requires { ⌜ (1 ≤ n) × (1 ≤ sender) × (sender ≤ limits.greatestSize) × (self .round ≤ limits.lastRound) × (round ≤ limits.lastRound) × (stores.proposerOf entry ≤ limits.greatestSize) ⌝ }
-        ensures { λ r. ⌜ r ≡ parts.lifted (parts.liftUnless (idleness.idleF self sender round) lift) (parts.orPast (idleness.idleF self sender round) cut i self (events.onF n i sender round (stores.proposerOf entry) (stores.valueOf entry) self)) ⌝ }
+        ensures { λ r. ⌜ r ≡ private.lifted (private.liftUnless (idleness.idleF self sender round) lift) (private.orPast (idleness.idleF self sender round) cut i self (events.onF n i sender round (stores.proposerOf entry) (stores.valueOf entry) self)) ⌝ }
     {
         if self.idle_f(sender, round) {
             return self.idles(i, cut);
@@ -260,7 +260,7 @@ impl Process {
     }
 
     pub(crate) fn way_decision(self, i: u8, entry: u64, cut: bool, lift: u32) -> Way
-        ensures { λ r. ⌜ r ≡ parts.lifted (parts.liftUnless (self .decided) lift) (steps.orIdle (self .decided) cut i self (events.onDecision (stores.valueOf entry) self)) ⌝ }
+        ensures { λ r. ⌜ r ≡ private.lifted (private.liftUnless (self .decided) lift) (steps.orIdle (self .decided) cut i self (events.onDecision (stores.valueOf entry) self)) ⌝ }
     {
         if self.decided {
             return self.idles(i, cut);
@@ -271,7 +271,7 @@ impl Process {
 
     // A recovery of a process that is up is refused, and so is one that would be too many.
     pub(crate) fn way_recover(self, i: u8) -> Way
-        ensures { λ r. ⌜ r ≡ parts.lifted 0 (parts.orUp (self .up) i self) ⌝ }
+        ensures { λ r. ⌜ r ≡ private.lifted 0 (private.orUp (self .up) i self) ⌝ }
     {
         if self.up {
             return Way::Refuses(7);
@@ -284,8 +284,8 @@ impl Process {
 
     // The way of a step that none of 11 to the message's 14 stops.
     pub(crate) fn last_way(self, n: u8, i: u8, entry: u64, lift: u32, step: Step) -> Way
-        requires { ⌜ parts.Numbered n self step × (delivers step ≡ true → stores.proposerOf entry ≤ limits.greatestSize) ⌝ }
-        ensures { λ r. ⌜ r ≡ parts.lifted (parts.lifts self step lift) (parts.lastCourse n i entry self step) ⌝ }
+        requires { ⌜ private.Numbered n self step × (delivers step ≡ true → stores.proposerOf entry ≤ limits.greatestSize) ⌝ }
+        ensures { λ r. ⌜ r ≡ private.lifted (private.lifts self step lift) (private.lastCourse n i entry self step) ⌝ }
     {
         match step {
             Step::DeliverE {
@@ -329,8 +329,8 @@ impl Process {
         recovering: bool,
         step: Step,
     ) -> Way
-        requires { ⌜ parts.Numbered n self step × (delivering ≡ delivers step) × (recovering ≡ refusals.isRecover step) ⌝ }
-        ensures { λ r. ⌜ r ≡ parts.lifted (parts.lifts self step (depth + 1)) (parts.heldCourse n i entry depth self step) ⌝ }
+        requires { ⌜ private.Numbered n self step × (delivering ≡ delivers step) × (recovering ≡ refusals.isRecover step) ⌝ }
+        ensures { λ r. ⌜ r ≡ private.lifted (private.lifts self step (depth + 1)) (private.heldCourse n i entry depth self step) ⌝ }
     {
         let refusal = held_refusal(n, self.up, entry, depth, delivering, recovering);
         if refusal != 0 {
@@ -341,7 +341,7 @@ impl Process {
 
     // A suspicion that is not possible is refused.
     pub(crate) fn way_suspect(self, i: u8, cut: bool) -> Way
-        ensures { λ r. ⌜ r ≡ parts.lifted 0 (parts.orImpossible (refusals.maySuspect self) cut i self) ⌝ }
+        ensures { λ r. ⌜ r ≡ private.lifted 0 (private.orImpossible (refusals.maySuspect self) cut i self) ⌝ }
     {
         if self.may_suspect() {
             return Way::Takes(i, self.on_suspect().cut_if(cut), 0);
@@ -363,7 +363,7 @@ pub(crate) fn way_of(
     step: Step,
 ) -> Way
     requires { ⌜ steps.Ready (groupOf n (now words) (now halves) (now bytes) (now flags)) (now store) (now depths) ⌝ }
-    ensures { λ r. ⌜ r ≡ parts.wayOf (groupOf n (now (words .entry)) (now (halves .entry)) (now (bytes .entry)) (now (flags .entry))) (now (store .entry)) (now (depths .entry)) step ⌝ }
+    ensures { λ r. ⌜ r ≡ private.wayOf (groupOf n (now (words .entry)) (now (halves .entry)) (now (bytes .entry)) (now (flags .entry))) (now (store .entry)) (now (depths .entry)) step ⌝ }
 {
     let address = step.address(n);
     match address {

@@ -7,7 +7,7 @@ ghost use lib.ListN.{length, getD, set};
 ghost use Rattle.rules.specs.Limits as limits;
 ghost use Rattle.rules.specs.Store as stores;
 ghost use Rattle.rules.specs.Depths as dates;
-ghost use Rattle.rules.specs.Private as parts;
+ghost use Rattle.rules.specs.Private as private;
 ghost use Rattle.rules.specs.Tally.{bitOf};
 use crate::group::Group;
 use crate::process::Message;
@@ -123,7 +123,7 @@ impl Store {
     // Where a message of process i stands, and its entry.
     pub(crate) fn spot(i: u8, message: Message) -> Spot
         requires { ⌜ (1 ≤ i) × (i ≤ limits.greatestSize) ⌝ }
-        ensures { λ r. ⌜ r ≡ parts.spotOf i message ⌝ }
+        ensures { λ r. ⌜ r ≡ private.spotOf i message ⌝ }
     {
         match message {
             Message::Nothing => Spot::Nowhere,
@@ -161,7 +161,7 @@ impl Store {
         message: Message,
     ) -> u8
         requires { ⌜ (1 ≤ i) × (i ≤ limits.greatestSize) × (stores.messageRound message ≤ limits.lastRound) × (limits.storeLength ≤ length (now store)) × (limits.storeLength ≤ length (now depths)) ⌝ }
-        ensures { λ r. ⌜ parts.HandsOver i message depth (now (store .entry)) (now (depths .entry)) (now (store .exit)) (now (depths .exit)) r ⌝ }
+        ensures { λ r. ⌜ private.HandsOver i message depth (now (store .entry)) (now (depths .entry)) (now (store .exit)) (now (depths .exit)) r ⌝ }
     {
         let spot = Store::spot(i, message);
         match spot {
@@ -180,7 +180,7 @@ impl Store {
         second: Message,
     ) -> u8
         requires { ⌜ (1 ≤ i) × (i ≤ limits.greatestSize) × (stores.messageRound first ≤ limits.lastRound) × (stores.messageRound second ≤ limits.lastRound) × (limits.storeLength ≤ length (now store)) × (limits.storeLength ≤ length (now depths)) ⌝ }
-        ensures { λ r. ⌜ parts.HandsOverBoth i first second depth (now (store .entry)) (now (depths .entry)) (now (store .exit)) (now (depths .exit)) r ⌝ }
+        ensures { λ r. ⌜ private.HandsOverBoth i first second depth (now (store .entry)) (now (depths .entry)) (now (store .exit)) (now (depths .exit)) r ⌝ }
     {
         let sent = Store::hand_over(store, depths, depth, i, first);
         let more = Store::hand_over(store, depths, depth, i, second);

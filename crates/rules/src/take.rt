@@ -7,7 +7,7 @@ ghost use Rattle.rules.specs.Limits as limits;
 ghost use Rattle.rules.specs.Layout.{groupOf, depthIn};
 ghost use Rattle.rules.specs.Answers.{outcome, said};
 ghost use Rattle.rules.specs.Step as steps;
-ghost use Rattle.rules.specs.Private as parts;
+ghost use Rattle.rules.specs.Private as private;
 use crate::course;
 use crate::course::Way;
 use crate::group;
@@ -53,7 +53,7 @@ pub(crate) fn finish(
     next: Next,
     lift: u32,
 ) -> Answer
-    requires { ⌜ parts.Handable i next (now store) (now depths) × (lift ≤ limits.deepestProcess) ⌝ }
+    requires { ⌜ private.Handable i next (now store) (now depths) × (lift ≤ limits.deepestProcess) ⌝ }
     ensures { λ r. ⌜ outcome (groupOf n (now (words .exit)) (now (halves .exit)) (now (bytes .exit)) (now (flags .exit))) (now (store .exit)) (now (depths .exit)) (said r) ≡ steps.settled (groupOf n (now (words .entry)) (now (halves .entry)) (now (bytes .entry)) (now (flags .entry))) (now (store .entry)) (now (depths .entry)) (max (depthIn (now (halves .entry)) i) lift) (steps.Takes i next) ⌝ }
 {
     let process = next.process;
