@@ -25,8 +25,8 @@ failed=0
 # Each try below has ten seconds, which is no time to prove anything in.
 "$model" build || exit 2
 
-expected='WARMUP 1 applied 1 idle 0 refused 0 sent 0 decided 0
-MEASURED 4 applied 3 idle 0 refused 1 sent 3 decided 2
+expected='WARMUP 1 applied 1 idle 0 refused 0 sent 0 again 0 decided 0
+MEASURED 4 applied 3 idle 0 refused 1 sent 3 again 0 decided 2
 PROCESSES 3
 1 up 0 1 1 7 - 0 -
 2 up 0 1 1 7 7 0 2
@@ -76,8 +76,8 @@ wait
   echo 'P 1000'
 } > greatest
 { cat greatest; echo; } > just_too_long
-all_refused='WARMUP 0 applied 0 idle 0 refused 0 sent 0 decided 0
-MEASURED 2978 applied 0 idle 0 refused 2978 sent 0 decided 0
+all_refused='WARMUP 0 applied 0 idle 0 refused 0 sent 0 again 0 decided 0
+MEASURED 2978 applied 0 idle 0 refused 2978 sent 0 again 0 decided 0
 PROCESSES 1
 1 up 0 1 1 0 - 0 -'
 try "$model" run report < greatest;     check "report, $(stat -c %s greatest) bytes" 0 "$all_refused"
@@ -208,6 +208,41 @@ tail -n 3 out > part && mv part out;                        check "model steps, 
 depth 2 to 8  decided 0
 depth 9  decided 1  #"
 
+# What is sent again: after a crash, in both sections, and not by a cut
+relays='VALUES 3\n7\n9\n5\nWARMUP 4\nE 2 1 0\nC 2\nR 2\nE 2 1 0\nMEASURED 4\nC 2\nR 2\nE 2 1 0\nE 2 2 0\n'
+printf "$relays" > again
+sent_again='WARMUP 4 applied 4 idle 0 refused 0 sent 2 again 1 decided 0
+MEASURED 4 applied 4 idle 0 refused 0 sent 2 again 1 decided 1
+PROCESSES 3
+1 up 0 1 1 7 - 0 -
+2 up 0 1 1 7 7 2 2
+3 up 0 1 3 5 - 0 -'
+try "$model" report again;                                  check "model report, a relay that is handed over again" 0 "$sent_again"
+printf "${relays%E 2 1 0*}E 2 1 0 X\nR 2\n" > kept_back
+try "$model" report kept_back;                              check "model report, a repeated relay that is cut" 0 'WARMUP 4 applied 4 idle 0 refused 0 sent 2 again 1 decided 0
+MEASURED 4 applied 4 idle 0 refused 0 sent 0 again 0 decided 0
+PROCESSES 3
+1 up 0 1 1 7 - 0 -
+2 up 0 1 1 7 - 3 -
+3 up 0 1 3 5 - 0 -'
+try "$model" steps again;                                   check "model steps, a run in which a relay is handed over again" 0 'again  process 2  value 7  depth 2
+
+0 of 1 decisions are of the warm-up
+
+depth 2  decided 1  #'
+# Counts of four digits: sixteen processes crash, come back and relay again, 80 times
+{
+  printf 'VALUES 16\n'
+  seq 16
+  printf 'WARMUP 15\n'
+  for p in {2..16}; do echo "E $p 1 0"; done
+  printf 'MEASURED 3840\n'
+  for ((i = 0; i < 80; i++)); do for p in {1..16}; do printf 'C %d\nR %d\nE %d 1 0\n' $p $p $p; done; done
+} > load
+try "$model" report load
+head -n 2 out > part && mv part out;                        check "model report, 1,200 relays that are handed over again" 0 'WARMUP 15 applied 15 idle 0 refused 0 sent 15 again 0 decided 0
+MEASURED 3840 applied 3840 idle 0 refused 0 sent 1200 again 1200 decided 0'
+
 # said TEXT..: standard error of the last try has these words; else the next check fails.
 said() { local word; for word in "$@"; do grep -qF -- "$word" err || echo "standard error lacks: $word" >> out; done; }
 # quiet_but COUNT: it has at most so many lines.
@@ -268,6 +303,9 @@ try "$model" report one five; said 'report takes one file'; check "model report,
 try "$model" frobnicate; said 'there is no word frobnicate'; check "model, a word that it has not" 2 ''
 try "$model" compare 0 1; said '0 is no count';             check "model compare, a count of 0" 2 ''
 try "$model" compare 5 1 --error none; said 'knows no error none'; check "model compare, an error that it has not" 2 ''
+for error in again-not-counted cut-counts first-counts-as-again again-after-writing sent-without-repeats; do
+  try "$model" compare 0 1 --error $error; said '0 is no count'; check "model compare, the error $error is known" 2 ''
+done
 # Help and version
 try "$model" help steps; grep -q '^model steps' out && echo steps > out; check "model help steps" 0 steps
 try "$model" sweep --help; grep -q '^model sweep' out && echo sweep > out; check "model sweep --help" 0 sweep

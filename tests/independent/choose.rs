@@ -10,12 +10,12 @@ use std::path::{Path, PathBuf};
 
 const HEAD: &str = "# Test vectors
 
-Schedule files with the reports that document 01 and requests 2026-03 and 2026-06 demand, as the implementation in
+Schedule files with the reports that document 01 and requests 2026-03, 2026-05 and 2026-06 demand, as the implementation in
 `tests/independent` gives them. `step_`, `cut_`, `idle_` and `refused_` files (letter, part of the rule or cause) hit what
 they are named after in their last step, the only measured one. `ahead_of` files show the order of the refusals, `error_` files
-give another report with one of the errors that look right (document 01's, two about the number of recoveries and five about
-depths), `form_` files try the form of the file, and `walk_` files are whole random walks. Refusals 2, 11 and 14 cannot occur
-in a run of a file.
+give another report with one of the errors that look right (document 01's, two about the number of recoveries, five about
+depths and five about what is sent again), `form_` files try the form of the file, and `walk_` files are whole random walks.
+Refusals 2, 11 and 14 cannot occur in a run of a file.
 
 | File | What it hits | Report |
 |---|---|---|
@@ -26,18 +26,36 @@ fn hits(bytes: &[u8]) -> BTreeSet<String> {
 }
 
 /// Whether the report with this error is another one; with a depth above 0 where the error is to
-/// show the depths of the undecided, since 0 in their place needs no step at all.
+/// show the depths of the undecided, since 0 in their place needs no step at all; with a message that
+/// is handed over again where the error counts first ones, since any first one would do; and with one
+/// that a cut keeps back where the error counts that.
 fn shows(error: Error, bytes: &[u8]) -> bool {
     let report = |error| answer(bytes, error, &mut Statistic::default(), false).report;
     let (wrong, right) = (report(Some(error)), report(None));
     let above_0 = || wrong.lines().zip(right.lines()).any(|(wrong, right)| wrong != right && !wrong.ends_with(" 0"));
-    wrong != right && (error != Error::DepthOfTheUndecided || above_0())
+    let again = |report: &str| -> Vec<String> {
+        report.lines().filter_map(|line| line.split_once(" again ")).map(|(_, rest)| rest.to_string()).collect()
+    };
+    let repeats = || again(&right).iter().any(|rest| !rest.starts_with("0 "));
+    wrong != right
+        && match error {
+            Error::DepthOfTheUndecided => above_0(),
+            Error::FirstCountsAsAgain | Error::AgainAfterWriting => repeats(),
+            Error::CutCounts => again(&wrong) != again(&right),
+            _ => true,
+        }
 }
 
 /// The errors about depths.
 fn is_about_depths(error: Error) -> bool {
     use Error::*;
     matches!(error, DepthBeforeTheStep | RepeatsDeepen | CutLosesDepth | IdleDeepens | DepthOfTheUndecided)
+}
+
+/// The errors about what is sent again.
+fn is_about_again(error: Error) -> bool {
+    use Error::*;
+    matches!(error, AgainNotCounted | CutCounts | FirstCountsAsAgain | AgainAfterWriting | SentWithoutRepeats)
 }
 
 /// The schedule with as few steps as still hit the wanted thing.
@@ -168,7 +186,9 @@ pub fn choose(files: &[PathBuf], out: &Path) -> Result<bool, String> {
             chosen.insert(format!("walk_{}", kind), (bytes.clone(), format!("a whole walk with {} different hits", all.len())));
         }
     }
-    // For each of the errors that look right three runs that show it, of groups of three to five.
+    // For each of the errors that look right three runs that show it, of groups of three to five. One run can
+    // show many of the errors about what is sent again: for these all have other steps.
+    let mut steps_shown: BTreeSet<String> = BTreeSet::new();
     for (name, error) in ERRORS {
         let mut shown: BTreeSet<(usize, Vec<u8>)> = BTreeSet::new();
         let walks = if is_about_depths(error) { &deep } else { &walks };
@@ -177,7 +197,12 @@ pub fn choose(files: &[PathBuf], out: &Path) -> Result<bool, String> {
             let text = schedule.text().into_bytes();
             shown.insert((text.len(), text));
         }
-        for (number, (_, text)) in (1..).zip(shown.into_iter().take(3)) {
+        let steps_of = |text: &Vec<u8>| {
+            let schedule = read(text).expect("sound");
+            [schedule.warmup, schedule.measured].concat().iter().map(|step| format!("{}\n", step)).collect::<String>()
+        };
+        let another = shown.into_iter().filter(|(_, text)| !is_about_again(error) || steps_shown.insert(steps_of(text)));
+        for (number, (_, text)) in (1..).zip(another.take(3)) {
             let what = format!("a run whose report is another one with the error {}", name);
             chosen.insert(format!("error_{}_{}", name.replace('-', "_"), number), (text, what));
         }

@@ -1,4 +1,4 @@
-// An implementation of document 01 and requests 2026-03 and 2026-06 that shares nothing with the
+// An implementation of document 01 and requests 2026-03, 2026-05 and 2026-06 that shares nothing with the
 // proved one, to hold the two against each other: it answers schedule files, makes them, and compares
 // two sets of answers. Standard library only; the rules are in rules.rs, the file form in schedule.rs.
 
@@ -27,7 +27,8 @@ independent choose DIR OUT            choose, shorten and name files of DIR for 
                                       f-after-adopting, pause-empties-tallies,
                                       recovery-not-counted-after-a-pause, recoveries-lost-at-a-crash,
                                       depth-before-the-step, repeats-deepen, cut-loses-depth,
-                                      idle-deepens, depth-of-the-undecided
+                                      idle-deepens, depth-of-the-undecided, again-not-counted, cut-counts,
+                                      first-counts-as-again, again-after-writing, sent-without-repeats
 ";
 
 type Failure = String;

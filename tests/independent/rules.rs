@@ -1,5 +1,5 @@
-// The rules of document 01 and of requests 2026-03 and 2026-06, written from their words alone: what
-// a group does with one step. Records, tallies and the two stores, of messages and of their depths,
+// The rules of document 01 and of requests 2026-03, 2026-05 and 2026-06, written from their words alone:
+// what a group does with one step. Records, tallies and the two stores, of messages and of their depths,
 // are plain maps and sets. Nothing here knows of files. A process has a disk with its stored record
 // and, unless it crashed, a memory with its tallies.
 
@@ -20,8 +20,8 @@ pub fn coordinator(round: u32, n: u32) -> u32 {
     round % n + 1
 }
 
-/// Document 01's "errors that look right", two about the number of recoveries and five about
-/// depths: one of them can be switched on.
+/// Document 01's "errors that look right", two about the number of recoveries, five about depths and
+/// five about what is sent again: one of them can be switched on.
 #[derive(Clone, Copy, PartialEq, Eq, Debug)]
 pub enum Error {
     CountsReceptions,
@@ -36,9 +36,14 @@ pub enum Error {
     CutLosesDepth,
     IdleDeepens,
     DepthOfTheUndecided,
+    AgainNotCounted,
+    CutCounts,
+    FirstCountsAsAgain,
+    AgainAfterWriting,
+    SentWithoutRepeats,
 }
 
-pub const ERRORS: [(&str, Error); 12] = [
+pub const ERRORS: [(&str, Error); 17] = [
     ("counts-receptions", Error::CountsReceptions),
     ("back-in-phase-1", Error::BackInPhase1),
     ("hands-over-before-storing", Error::HandsOverBeforeStoring),
@@ -51,6 +56,11 @@ pub const ERRORS: [(&str, Error); 12] = [
     ("cut-loses-depth", Error::CutLosesDepth),
     ("idle-deepens", Error::IdleDeepens),
     ("depth-of-the-undecided", Error::DepthOfTheUndecided),
+    ("again-not-counted", Error::AgainNotCounted),
+    ("cut-counts", Error::CutCounts),
+    ("first-counts-as-again", Error::FirstCountsAsAgain),
+    ("again-after-writing", Error::AgainAfterWriting),
+    ("sent-without-repeats", Error::SentWithoutRepeats),
 ];
 
 #[derive(Clone, Copy, PartialEq, Eq, Debug)]
@@ -182,13 +192,15 @@ pub enum Outcome {
     Refused(u32, &'static str),
 }
 
-/// What one step gave: its outcome, the entries that it turned from 0 to sent, whether its
-/// process decided in it, and the parts of the rules that it went through.
+/// What one step gave: its outcome, the messages that it handed over, how many they are and how many
+/// of them had been sent before, whether its process decided in it, and the parts of the rules that it
+/// went through.
 #[derive(Clone, Debug)]
 pub struct Told {
     pub outcome: Outcome,
     pub handed_over: Vec<(Message, Estimate)>,
     pub sent: u64,
+    pub again: u64,
     pub decided: bool,
     pub parts: Vec<&'static str>,
 }
@@ -543,17 +555,31 @@ impl Group {
         Ok(Effect::Next(me, out, parts))
     }
 
-    /// Writes the entries; a message that is handed over for the first time gets this depth.
-    fn hand_over(&mut self, messages: &[(Message, Estimate)], depth: u32) -> u64 {
-        let mut sent = 0;
+    /// Writes the entries and counts them; a message that is handed over for the first time gets this
+    /// depth. True where one had been sent before.
+    fn hand_over(&mut self, messages: &[(Message, Estimate)], depth: u32, told: &mut Told) -> bool {
+        let mut repeats = false;
         for (message, carried) in messages {
-            let first = self.store.insert(*message, *carried).is_none();
-            if first || self.has_error(Error::RepeatsDeepen) {
+            let before = self.store.insert(*message, *carried).is_some();
+            if !before || self.has_error(Error::RepeatsDeepen) {
                 self.depths.insert(*message, depth);
             }
-            sent += u64::from(first);
+            self.count(before, told);
+            repeats |= before;
         }
-        sent
+        repeats
+    }
+
+    /// One message more that is handed over, and whether its entry was sent before.
+    fn count(&self, before: bool, told: &mut Told) {
+        let again = match self.error {
+            Some(Error::AgainNotCounted) => false,
+            Some(Error::FirstCountsAsAgain) => !before,
+            Some(Error::AgainAfterWriting) => true,
+            _ => before,
+        };
+        told.sent += u64::from(!(before && self.has_error(Error::SentWithoutRepeats)));
+        told.again += u64::from(again);
     }
 
     /// The error of an idle delivery that raises the depth of an undecided process.
@@ -583,7 +609,7 @@ impl Group {
 
     pub fn step(&mut self, step: &Step) -> Told {
         let who = step.who();
-        let mut told = Told { outcome: Outcome::Applied, handed_over: Vec::new(), sent: 0, decided: false, parts: Vec::new() };
+        let mut told = Told { outcome: Outcome::Applied, handed_over: Vec::new(), sent: 0, again: 0, decided: false, parts: Vec::new() };
         let effect = match self.attempt(step) {
             Ok(effect) => effect,
             Err((number, cause)) => {
@@ -608,7 +634,7 @@ impl Group {
                 let depth = if self.has_error(Error::DepthBeforeTheStep) { before } else { next.record.depth };
                 if step.is_cut() && self.has_error(Error::HandsOverBeforeStoring) {
                     // The error: the messages are out, the record is not stored.
-                    told.sent = self.hand_over(&messages, depth);
+                    self.hand_over(&messages, depth, &mut told);
                     told.handed_over = messages;
                     self.crash(who);
                     return told;
@@ -619,12 +645,14 @@ impl Group {
                 told.decided = self.record(who).decision.is_none() && next.record.decision.is_some();
                 self.disk.insert(who, next.record.clone());
                 if step.is_cut() {
+                    if self.has_error(Error::CutCounts) {
+                        messages.iter().for_each(|(message, _)| self.count(self.store.contains_key(message), &mut told));
+                    }
                     self.kept_back.extend(messages.iter().map(|(message, _)| *message));
                     self.crash(who);
                 } else {
                     self.memory.insert(who, next);
-                    told.sent = self.hand_over(&messages, depth);
-                    if told.sent < messages.len() as u64 {
+                    if self.hand_over(&messages, depth, &mut told) {
                         told.parts.push("handed_over_again");
                     }
                     told.handed_over = messages;

@@ -1,6 +1,7 @@
 // The schedule file and the report of document 01, with the number of recoveries of request
-// 2026-03 and the depths of request 2026-06: reading a file into lists of steps, running them with a
-// watch on safety and on depths, and writing the report as text.
+// 2026-03, what is sent again of request 2026-05 and the depths of request 2026-06: reading a file into
+// lists of steps, running them with a watch on safety, on what is sent and on depths, and writing the
+// report as text.
 
 use crate::rules::{Error, Estimate, Group, Message, Outcome, Step, Stored, Told, GREATEST_DEPTH, GREATEST_GROUP, MOST_RECOVERIES};
 use std::collections::{BTreeMap, BTreeSet};
@@ -143,7 +144,8 @@ pub fn read(bytes: &[u8]) -> Result<Schedule, Fault> {
     Ok(Schedule { values, warmup, measured })
 }
 
-/// The watch on safety and on depths: what must hold in every run, whatever the rules above do.
+/// The watch on safety, on what is sent and on depths: what must hold in every run, whatever the rules
+/// above do.
 struct Watch {
     first_values: BTreeSet<u32>,
     decided: Option<u32>,
@@ -225,8 +227,23 @@ impl Watch {
                 complain(format!("process {} decided at depth {} in a run where all decide at 2", who, record.depth));
             }
         }
+        // What is handed over: one message at most, counted once and, if it was out before, once more. Then it
+        // is an E, and its entry stays as it was.
+        if told.handed_over.len() > 1 {
+            complain(format!("{} messages are handed over", told.handed_over.len()));
+        }
+        let repeats = told.handed_over.iter().filter(|(message, _)| self.seen.contains_key(message)).count() as u64;
+        if (told.sent, told.again) != (told.handed_over.len() as u64, repeats) {
+            complain(format!("sent {} and again {} for {} messages, {} of them out before", told.sent, told.again, told.handed_over.len(), repeats));
+        }
         for (message, carried) in &told.handed_over {
             let depth = group.depth_of(*message);
+            if self.seen.contains_key(message) && !matches!(message, Message::E { .. }) {
+                complain(format!("{:?} was handed over again and is no E", message));
+            }
+            if group.store.get(message) != Some(carried) {
+                complain(format!("{:?} has another entry than it carries", message));
+            }
             match self.seen.insert(*message, (*carried, depth)) {
                 None if depth != record.depth => {
                     complain(format!("{:?} has depth {}, and its sender {}", message, depth, record.depth))
@@ -253,6 +270,17 @@ impl Watch {
             }
         }
         self.last_stored.insert(who, record.clone());
+    }
+
+    /// 1 and all that was sent are the sent entries and all that was sent again.
+    fn at_the_end(&mut self, sent: u64, again: u64, group: &Group) {
+        let entries = group.store.len() as u64;
+        if 1 + sent != entries + again {
+            self.complaints.push(format!("1 + sent {} are not {} entries + again {}", sent, entries, again));
+        }
+        if group.store.iter().any(|(message, carried)| self.seen.get(message).is_none_or(|(seen, _)| seen != carried)) {
+            self.complaints.push("an entry is not what was handed over".to_string());
+        }
     }
 }
 
@@ -287,7 +315,8 @@ impl Statistic {
                 ("cut and idle but for the cut", "cut idle"), ("cut and refused", "cut refused"), ("jumps", "jumps")]),
             list(&[("2:", "refused 2"), ("3:", "refused 3"), ("4:", "refused 4"), ("5:", "refused 5"),
                 ("6:", "refused 6"), ("7:", "refused 7"), ("8:", "refused 8"), ("13:", "refused 13"), ("14:", "refused 14")]),
-            list(&[("decided processes", "decided"), ("runs with a decision", "deciding runs"), ("entries sent", "sent")]),
+            list(&[("decided processes", "decided"), ("runs with a decision", "deciding runs"),
+                ("messages sent", "sent"), ("of them again", "again")]),
             self.highest_round,
             self.greatest_depth,
         )
@@ -339,9 +368,9 @@ pub fn answer(bytes: &[u8], error: Option<Error>, statistic: &mut Statistic, wan
     let mut watch = Watch::new(&schedule, &group);
     let mut report = String::new();
     let mut place = 0;
-    let mut all_decided = 0;
+    let (mut all_sent, mut all_again, mut all_decided) = (0, 0, 0);
     for (word, steps) in [("WARMUP", &schedule.warmup), ("MEASURED", &schedule.measured)] {
-        let (mut applied, mut idle, mut sent, mut decided) = (0, 0, 0, 0);
+        let (mut applied, mut idle, mut sent, mut again, mut decided) = (0, 0, 0, 0, 0);
         let mut refused: BTreeMap<u32, u64> = BTreeMap::new();
         let (mut cut_applied, mut cut_idle, mut cut_refused, mut jumps) = (0, 0, 0, 0);
         for step in steps {
@@ -355,6 +384,7 @@ pub fn answer(bytes: &[u8], error: Option<Error>, statistic: &mut Statistic, wan
                 hits_of(step, &told, &mut hits);
             }
             sent += told.sent;
+            again += told.again;
             decided += u64::from(told.decided);
             match told.outcome {
                 Outcome::Applied => {
@@ -375,20 +405,23 @@ pub fn answer(bytes: &[u8], error: Option<Error>, statistic: &mut Statistic, wan
         let all_refused: u64 = refused.values().sum();
         let _ = writeln!(
             report,
-            "{} {} applied {} idle {} refused {} sent {} decided {}",
-            word, steps.len(), applied, idle, all_refused, sent, decided
+            "{} {} applied {} idle {} refused {} sent {} again {} decided {}",
+            word, steps.len(), applied, idle, all_refused, sent, again, decided
         );
         for (name, by) in [
-            ("applied", applied), ("idle", idle), ("refused", all_refused), ("sent", sent), ("decided", decided),
-            ("cut applied", cut_applied), ("cut idle", cut_idle), ("cut refused", cut_refused), ("jumps", jumps),
+            ("applied", applied), ("idle", idle), ("refused", all_refused), ("sent", sent), ("again", again),
+            ("decided", decided), ("cut applied", cut_applied), ("cut idle", cut_idle), ("cut refused", cut_refused), ("jumps", jumps),
         ] {
             statistic.add(name, by);
         }
         for (number, by) in refused {
             statistic.add(&format!("refused {}", number), by);
         }
+        all_sent += sent;
+        all_again += again;
         all_decided += decided;
     }
+    watch.at_the_end(all_sent, all_again, &group);
     statistic.add("sound", 1);
     statistic.add("deciding runs", u64::from(all_decided > 0));
     let _ = writeln!(report, "PROCESSES {}", group.n);

@@ -13,7 +13,7 @@ use Rattle.rules.specs.Limits.{among}
 use Rattle.rules.specs.Tally.{holds, joined, meets, within}
 use Rattle.rules.specs.Layout.{processAt, withProcess, depthIn, depthAt, withDepth, blankGroup}
 use Rattle.rules.specs.Records.{blank, recordIf, recordOf, depthIf, depthOf}
-use Rattle.rules.specs.Store.{placeOf, entryFor, handOver, turned, cleared}
+use Rattle.rules.specs.Store.{placeOf, entryFor, handOver, one, repeats, cleared}
 use Rattle.rules.specs.Events.{takes, enters, joinsEstimates, joinsSuspicions, decides, secondPhase, marks, paused, crashed, recovered, quiet}
 use Rattle.rules.specs.Events.{changed, jumpsIf, jumps, relaysIf, relays, decidesIf, decidesAt, goesToPhase2, goesToPhase2If, toPhase2}
 use Rattle.rules.specs.Events.{adoptsIf, adopts, opensIf, opens, entersNextIf, entersNextAt, onE, onS, onF, onDecision, onSuspect}
@@ -25,7 +25,7 @@ use Rattle.rules.specs.Refusals.{row, allOf, every, short, miscounted, whole, d
 use Rattle.rules.specs.Refusals.{misnamed, tooDeep, maySuspect, impossible, recoversPast, entersPast, startRefusal, refusal}
 use Rattle.rules.specs.Answers.{total}
 use Rattle.rules.specs.Start.{fresh, startedTo, opened, openedDepths, unlessRefusedStart, started}
-use Rattle.rules.specs.Step.{idles, orIdle, unlessRefused, course, handOvers, sentBy, decidesNow, settled, stepped}
+use Rattle.rules.specs.Step.{idles, orIdle, unlessRefused, course, handedOf, handOvers, sentBy, againBy, decidesNow, settled, stepped}
 use Rattle.rules.specs.Run.{startState, next, after, answers}
 use Rattle.rules.proofs.Cited.{and-left, and-right}
 use Rattle.text.specs.Number.{isDigit, scan, numberAt, spell}
@@ -55,7 +55,7 @@ unfolding ones
     holds joined meets within
     processAt withProcess depthIn depthAt withDepth blankGroup
     blank recordIf recordOf depthIf depthOf
-    placeOf entryFor handOver turned cleared
+    placeOf entryFor handOver one repeats cleared
     takes enters joinsEstimates joinsSuspicions decides secondPhase marks paused crashed recovered quiet
     changed jumpsIf jumps relaysIf relays decidesIf decidesAt goesToPhase2 goesToPhase2If toPhase2
     adoptsIf adopts opensIf opens entersNextIf entersNextAt onE onS onF onDecision onSuspect
@@ -67,7 +67,7 @@ unfolding ones
     misnamed tooDeep maySuspect impossible recoversPast entersPast startRefusal refusal
     total
     fresh startedTo opened openedDepths unlessRefusedStart started
-    idles orIdle unlessRefused course handOvers sentBy decidesNow settled stepped
+    idles orIdle unlessRefused course handedOf handOvers sentBy againBy decidesNow settled stepped
     startState next after answers
     isDigit scan numberAt spell
     before linesAt numbersAfter mayCut stepOf closed spacedAt nextNumber endAt afterLetter lineAt

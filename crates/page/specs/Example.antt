@@ -1,4 +1,4 @@
--- Document 01, "Input and the report program's whole output": the example, byte for byte, with the fields that requests 2026-03 and 2026-06 add to process lines.
+-- Document 01, "Input and the report program's whole output": the example, byte for byte, with the fields that requests 2026-03 and 2026-06 add to process lines, and 2026-05 to section lines.
 -- Its statement is `exampleReport ≡ exampleOutput`, in proofs/Example.antt. Assumes nothing.
 use mathlib.Core.List.{List, [], _∷_}
 use Prim.Native.Nat.{ℕ}
@@ -35,10 +35,10 @@ exampleInput =
 
 unfoldable pub exampleOutput : List ℕ
 exampleOutput =
-    -- WARMUP 1 applied 1 idle 0 refused 0 sent 0 decided 0
-    87 ∷ 65 ∷ 82 ∷ 77 ∷ 85 ∷ 80 ∷ 32 ∷ 49 ∷ 32 ∷ 97 ∷ 112 ∷ 112 ∷ 108 ∷ 105 ∷ 101 ∷ 100 ∷ 32 ∷ 49 ∷ 32 ∷ 105 ∷ 100 ∷ 108 ∷ 101 ∷ 32 ∷ 48 ∷ 32 ∷ 114 ∷ 101 ∷ 102 ∷ 117 ∷ 115 ∷ 101 ∷ 100 ∷ 32 ∷ 48 ∷ 32 ∷ 115 ∷ 101 ∷ 110 ∷ 116 ∷ 32 ∷ 48 ∷ 32 ∷ 100 ∷ 101 ∷ 99 ∷ 105 ∷ 100 ∷ 101 ∷ 100 ∷ 32 ∷ 48 ∷ 10
-    -- MEASURED 4 applied 3 idle 0 refused 1 sent 3 decided 2
-    ∷ 77 ∷ 69 ∷ 65 ∷ 83 ∷ 85 ∷ 82 ∷ 69 ∷ 68 ∷ 32 ∷ 52 ∷ 32 ∷ 97 ∷ 112 ∷ 112 ∷ 108 ∷ 105 ∷ 101 ∷ 100 ∷ 32 ∷ 51 ∷ 32 ∷ 105 ∷ 100 ∷ 108 ∷ 101 ∷ 32 ∷ 48 ∷ 32 ∷ 114 ∷ 101 ∷ 102 ∷ 117 ∷ 115 ∷ 101 ∷ 100 ∷ 32 ∷ 49 ∷ 32 ∷ 115 ∷ 101 ∷ 110 ∷ 116 ∷ 32 ∷ 51 ∷ 32 ∷ 100 ∷ 101 ∷ 99 ∷ 105 ∷ 100 ∷ 101 ∷ 100 ∷ 32 ∷ 50 ∷ 10
+    -- WARMUP 1 applied 1 idle 0 refused 0 sent 0 again 0 decided 0
+    87 ∷ 65 ∷ 82 ∷ 77 ∷ 85 ∷ 80 ∷ 32 ∷ 49 ∷ 32 ∷ 97 ∷ 112 ∷ 112 ∷ 108 ∷ 105 ∷ 101 ∷ 100 ∷ 32 ∷ 49 ∷ 32 ∷ 105 ∷ 100 ∷ 108 ∷ 101 ∷ 32 ∷ 48 ∷ 32 ∷ 114 ∷ 101 ∷ 102 ∷ 117 ∷ 115 ∷ 101 ∷ 100 ∷ 32 ∷ 48 ∷ 32 ∷ 115 ∷ 101 ∷ 110 ∷ 116 ∷ 32 ∷ 48 ∷ 32 ∷ 97 ∷ 103 ∷ 97 ∷ 105 ∷ 110 ∷ 32 ∷ 48 ∷ 32 ∷ 100 ∷ 101 ∷ 99 ∷ 105 ∷ 100 ∷ 101 ∷ 100 ∷ 32 ∷ 48 ∷ 10
+    -- MEASURED 4 applied 3 idle 0 refused 1 sent 3 again 0 decided 2
+    ∷ 77 ∷ 69 ∷ 65 ∷ 83 ∷ 85 ∷ 82 ∷ 69 ∷ 68 ∷ 32 ∷ 52 ∷ 32 ∷ 97 ∷ 112 ∷ 112 ∷ 108 ∷ 105 ∷ 101 ∷ 100 ∷ 32 ∷ 51 ∷ 32 ∷ 105 ∷ 100 ∷ 108 ∷ 101 ∷ 32 ∷ 48 ∷ 32 ∷ 114 ∷ 101 ∷ 102 ∷ 117 ∷ 115 ∷ 101 ∷ 100 ∷ 32 ∷ 49 ∷ 32 ∷ 115 ∷ 101 ∷ 110 ∷ 116 ∷ 32 ∷ 51 ∷ 32 ∷ 97 ∷ 103 ∷ 97 ∷ 105 ∷ 110 ∷ 32 ∷ 48 ∷ 32 ∷ 100 ∷ 101 ∷ 99 ∷ 105 ∷ 100 ∷ 101 ∷ 100 ∷ 32 ∷ 50 ∷ 10
     -- PROCESSES 3
     ∷ 80 ∷ 82 ∷ 79 ∷ 67 ∷ 69 ∷ 83 ∷ 83 ∷ 69 ∷ 83 ∷ 32 ∷ 51 ∷ 10
     -- 1 up 0 1 1 7 - 0 -

@@ -32,7 +32,7 @@ abbrev pub longestWord : ℕ
 longestWord = 8
 
 abbrev pub longestSection : ℕ
-longestSection = longestWord + longestOf 47 6
+longestSection = longestWord + longestOf 55 7
 
 -- the line of PROCESSES
 abbrev pub longestSize : ℕ

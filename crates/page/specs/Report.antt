@@ -23,13 +23,14 @@ badText = 66 ∷ 65 ∷ 68 ∷ 32 ∷ 35 ∷ 32 ∷ 35 ∷ 10 ∷ []
 unfoldable pub faultLine : Fault → List ℕ
 faultLine f = filled badText (f .number ∷ f .line ∷ [])
 
--- ` # applied # idle # refused # sent # decided #`, and LF
+-- ` # applied # idle # refused # sent # again # decided #`, and LF
 abbrev pub countsText : List ℕ
-countsText = 32 ∷ 35 ∷ 32 ∷ 97 ∷ 112 ∷ 112 ∷ 108 ∷ 105 ∷ 101 ∷ 100 ∷ 32 ∷ 35 ∷ 32 ∷ 105 ∷ 100 ∷ 108 ∷ 101 ∷ 32 ∷ 35 ∷ 32 ∷ 114 ∷ 101 ∷ 102 ∷ 117 ∷ 115 ∷ 101 ∷ 100 ∷ 32 ∷ 35 ∷ 32 ∷ 115 ∷ 101 ∷ 110 ∷ 116 ∷ 32 ∷ 35 ∷ 32 ∷ 100 ∷ 101 ∷ 99 ∷ 105 ∷ 100 ∷ 101 ∷ 100 ∷ 32 ∷ 35 ∷ 10 ∷ []
+countsText = 32 ∷ 35 ∷ 32 ∷ 97 ∷ 112 ∷ 112 ∷ 108 ∷ 105 ∷ 101 ∷ 100 ∷ 32 ∷ 35 ∷ 32 ∷ 105 ∷ 100 ∷ 108 ∷ 101 ∷ 32 ∷ 35 ∷ 32 ∷ 114 ∷ 101 ∷ 102 ∷ 117 ∷ 115 ∷ 101 ∷ 100 ∷ 32 ∷ 35 ∷ 32 ∷ 115 ∷ 101 ∷ 110 ∷ 116 ∷ 32 ∷ 35 ∷ 32 ∷ 97 ∷ 103 ∷ 97 ∷ 105 ∷ 110 ∷ 32 ∷ 35 ∷ 32 ∷ 100 ∷ 101 ∷ 99 ∷ 105 ∷ 100 ∷ 101 ∷ 100 ∷ 32 ∷ 35 ∷ 10 ∷ []
 
--- "Section lines: the count of steps in the section, those applied, idle and refused, then sent and decided." The section's word stands before them.
+-- "Section lines: the count of steps in the section, those applied, idle and refused, then sent and decided.", and by request 2026-05 again right after sent. The section's word
+-- stands before them.
 unfoldable pub sectionLine : List ℕ → Counts → List ℕ
-sectionLine w c = w ++ filled countsText (c .steps ∷ c .applied ∷ c .idle ∷ c .refused ∷ c .sent ∷ c .decided ∷ [])
+sectionLine w c = w ++ filled countsText (c .steps ∷ c .applied ∷ c .idle ∷ c .refused ∷ c .sent ∷ c .again ∷ c .decided ∷ [])
 
 -- `PROCESSES #`, and LF
 abbrev pub processesText : List ℕ

@@ -22,8 +22,8 @@ use text::put::put_bytes;
 pub struct Report {}
 
 impl Report {
-    // No report is longer: with ten digits to a number a section's line has at most 109 bytes, the line of PROCESSES 21, and each of 16 process lines 93.
-    pub const LONGEST: usize = 1727;
+    // No report is longer: with ten digits to a number a section's line has at most 126 bytes, the line of PROCESSES 21, and each of 16 process lines 93.
+    pub const LONGEST: usize = 1761;
 
     // The constant is the definitions' limit.
     pub(crate) fn longest() -> usize
@@ -50,11 +50,19 @@ pub(crate) fn put_section(out: &mut [u8], at: usize, word: &[u8], c: Counts) -> 
     ensures { λ r. ⌜ Piece private.longestSection (now (out .entry)) at (reports.sectionLine (now (word .entry)) c) (now (out .exit)) r ⌝ }
 {
     let next = put_bytes(out, at, word);
-    let numbers = [c.steps, c.applied, c.idle, c.refused, c.sent, c.decided];
+    let numbers = [
+        c.steps,
+        c.applied,
+        c.idle,
+        c.refused,
+        c.sent,
+        c.again,
+        c.decided,
+    ];
     fill(
         out,
         next,
-        b" # applied # idle # refused # sent # decided #\n",
+        b" # applied # idle # refused # sent # again # decided #\n",
         &numbers,
     )
 }

@@ -9,4 +9,8 @@ pub mod Entries
 pub mod Sound
 pub mod Handing
 pub mod Tallies
+-- what a process has said, what is handed over again
+pub mod Spoken
+pub mod Repeats
 pub mod Carried
+pub mod Traffic

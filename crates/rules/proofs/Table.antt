@@ -1,4 +1,4 @@
--- Document 01, "Runs to hold it against": the runs marked (P), and those for request 2026-03, hold, "proved together as one table with a single statement". Assumes nothing.
+-- Document 01, "Runs to hold it against": the runs marked (P), and those for requests 2026-03 and 2026-05, hold, "proved together as one table with a single statement". Assumes nothing.
 -- antt computes every run of specs/Table.antt by the definitions, so the proof names all of them and is then one word.
 use mathlib.Core.Path.{_≡_, refl}
 use mathlib.Core.Bool.{true}
@@ -6,7 +6,7 @@ use lib.Count.{ones}
 use Rattle.rules.specs.Limits.{among}
 use Rattle.rules.specs.Tally.{holds, joined, meets, within}
 use Rattle.rules.specs.Layout.{processAt, withProcess, depthIn, depthAt, withDepth, blankGroup}
-use Rattle.rules.specs.Store.{placeOf, entryFor, handOver, turned, cleared}
+use Rattle.rules.specs.Store.{placeOf, entryFor, handOver, one, repeats, cleared}
 use Rattle.rules.specs.Events.{takes, enters, joinsEstimates, joinsSuspicions, decides, secondPhase, marks, paused, crashed, recovered, quiet}
 use Rattle.rules.specs.Events.{changed, jumpsIf, jumps, relaysIf, relays, decidesIf, decidesAt, goesToPhase2, goesToPhase2If, toPhase2}
 use Rattle.rules.specs.Events.{adoptsIf, adopts, opensIf, opens, entersNextIf, entersNextAt, onE, onS, onF, onDecision, onSuspect}
@@ -18,20 +18,21 @@ use Rattle.rules.specs.Refusals.{row, allOf, every, short, miscounted, w
 use Rattle.rules.specs.Refusals.{misnamed, tooDeep, maySuspect, impossible, recoversPast, entersPast, startRefusal, refusal}
 use Rattle.rules.specs.Answers.{total}
 use Rattle.rules.specs.Start.{fresh, startedTo, opened, openedDepths, unlessRefusedStart, started}
-use Rattle.rules.specs.Step.{idles, orIdle, unlessRefused, course, handOvers, sentBy, decidesNow, settled, stepped}
-use Rattle.rules.specs.Run.{startState, next, after, answers, one, handedByCourse, handedBy}
+use Rattle.rules.specs.Step.{idles, orIdle, unlessRefused, course, handedOf, handOvers, sentBy, againBy, decidesNow, settled, stepped}
+use Rattle.rules.specs.Run.{startState, next, after, answers, handedByCourse, handedBy}
 use Rattle.rules.specs.Safety.{isSuspicion, plain, deliversE, senderOf, ledBy}
 use Rattle.rules.specs.DepthTable.{allDeep, allAtDepth, ends, holdsFrom, depthsHold, goodRun, relayFirst, coordinatorCrashes, cutKeeps, depthTable}
 use Rattle.rules.specs.Table.{sameSaid, looks, looksIn, allLook, allStand, sameHanded, answered, goesOn, holdsOne, holdsAll, runAbove, oneDecides}
 use Rattle.rules.specs.Table.{oneEntersRound1, repeatIsIdle, suspectTwice, crashTwice, recoverWhileUp, refusedOfSixteen, seventeenth}
-use Rattle.rules.specs.Table.{round64, round63, fiveProcesses, relayedAgain, pauseKeepsTallies, comesBack, comesBackFromACut, table, sameNumbers, stepsOf, addUp, sectionsAbove, tableHolds}
+use Rattle.rules.specs.Table.{round64, round63, fiveProcesses, relayedAgain, relayCut, pauseKeepsTallies, comesBack, comesBackFromACut, table, sameNumbers, stepsOf, addUp}
+use Rattle.rules.specs.Table.{sectionsAbove, sectionAgain, twoAtOnce, tableHolds}
 
 -- the single statement
 pub table-holds : tableHolds ≡ true
 unfolding ones
     holds joined meets within
     processAt withProcess depthIn depthAt withDepth blankGroup
-    placeOf entryFor handOver turned cleared
+    placeOf entryFor handOver one repeats cleared
     takes enters joinsEstimates joinsSuspicions decides secondPhase marks paused crashed recovered quiet
     changed jumpsIf jumps relaysIf relays decidesIf decidesAt goesToPhase2 goesToPhase2If toPhase2
     adoptsIf adopts opensIf opens entersNextIf entersNextAt onE onS onF onDecision onSuspect
@@ -42,11 +43,12 @@ unfolding ones
     row among allOf every short miscounted whole damaged strange late isRecover down unsent
     misnamed tooDeep maySuspect impossible recoversPast entersPast startRefusal refusal
     fresh startedTo opened openedDepths unlessRefusedStart started
-    idles orIdle unlessRefused course handOvers sentBy decidesNow settled stepped
-    total startState next after answers one handedByCourse handedBy
+    idles orIdle unlessRefused course handedOf handOvers sentBy againBy decidesNow settled stepped
+    total startState next after answers handedByCourse handedBy
     sameSaid looks looksIn allLook allStand sameHanded answered goesOn holdsOne holdsAll runAbove oneDecides
     oneEntersRound1 repeatIsIdle suspectTwice crashTwice recoverWhileUp refusedOfSixteen seventeenth
-    round64 round63 fiveProcesses relayedAgain pauseKeepsTallies comesBack comesBackFromACut table sameNumbers stepsOf addUp sectionsAbove tableHolds
+    round64 round63 fiveProcesses relayedAgain relayCut pauseKeepsTallies comesBack comesBackFromACut table sameNumbers stepsOf addUp
+    sectionsAbove sectionAgain twoAtOnce tableHolds
     isSuspicion plain deliversE senderOf ledBy
     allDeep allAtDepth ends holdsFrom depthsHold goodRun relayFirst coordinatorCrashes cutKeeps depthTable
 table-holds = refl

@@ -4,7 +4,7 @@ use Rattle.rules.proofs.Runs.Carried.{agreement, validity, first-values
 use Rattle.rules.proofs.Runs.Carried.{past-kept, sent-counts, sound-entries, tallies-fit, tallies-heard, decides-with-majority, phase2-with-majority}
 use Rattle.rules.proofs.Runs.Carried.{next-round-with-majority, recoveries-counted, recoveries-fit, refusal-thirteen}
 use Rattle.rules.proofs.Depths.Basics.{sound-group, never-damaged, depths-change-nothing, depths-fit}
-use Rattle.rules.proofs.Depths.Steps.{sent-stays}
+use Rattle.rules.proofs.Runs.Traffic.{sent-stays, at-most-two, at-most-one, equal-repeats, only-e-repeats}
 use Rattle.rules.proofs.Depths.Kept.{above-kept, depth-recovery, quiet-keeps-depths, cut-keeps-depth}
 use Rattle.rules.proofs.Depths.TwoSteps.{decision-depth-stays, two-steps}
 use Rattle.rules.proofs.Depths.Chains.{depth-is-longest}
@@ -46,4 +46,8 @@ safety =
       decision-depth = decision-depth-stays;
       two-steps = two-steps;
       longest = depth-is-longest;
+      two = at-most-two;
+      one = at-most-one;
+      equal = equal-repeats;
+      only-e = only-e-repeats;
     }

@@ -14,14 +14,14 @@ use Rattle.rules.specs.Step.{stepped}
 
 -- the answer that says this
 answerOf : Bool → Bool → Said → Answer
-answerOf true i s = Applied (s .sent) (s .decided)
+answerOf true i s = Applied (s .sent) (s .again) (s .decided)
 answerOf false true s = Idle
 answerOf false false s = Refused (s .refusal)
 
 answer-said : (a : Answer) → answerOf (said a .applied) (said a .idle) (said a) ≡ a
 unfolding answerOf said
 answer-said Idle = refl
-answer-said (Applied sent decided) = refl
+answer-said (Applied sent again decided) = refl
 answer-said (Refused k) = refl
 
 -- two answers that say the same are one

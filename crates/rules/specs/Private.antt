@@ -12,13 +12,14 @@ use Rattle.rules.specs.declared.course.Address.{Address}
 use Rattle.rules.specs.declared.course.Address.the-variants.{Misses, At}
 use Rattle.rules.specs.declared.course.Way.{Way}
 use Rattle.rules.specs.declared.store.Spot.{Spot}
+use Rattle.rules.specs.declared.store.Traffic.{Traffic}
 use Rattle.rules.specs.declared.process.Message.{Message}
 use Rattle.rules.specs.declared.process.Message.the-variants.{Nothing, E, S, F, Decision}
 use Rattle.rules.specs.declared.step.Step.{Step}
 use Rattle.rules.specs.declared.step.Step.the-variants.{DeliverE, DeliverS, DeliverF, DeliverDecision, Suspect, Pause, Crash, Recover}
 use Rattle.rules.specs.Limits.{greatestSize, lastRound, tooMany, storeLength, deepestMessage, among}
 use Rattle.rules.specs.Layout.{processAt}
-use Rattle.rules.specs.Store.{proposerOf, valueOf, placeOf, entryFor, messageRound, handOver, turned}
+use Rattle.rules.specs.Store.{proposerOf, valueOf, placeOf, entryFor, messageRound, handOver, one, repeats}
 use Rattle.rules.specs.Events.{onE, onS, onF, onDecision, onSuspect, onPause, onCrash, onRecover, cutIf}
 use Rattle.rules.specs.Kinds.{takerOf, numbersOf, delivers, slotOf}
 use Rattle.rules.specs.Idle.{idleE, idleS, idleF}
@@ -125,17 +126,19 @@ spotOf i (S r) = Spot.At (placeOf i (S r)) (entryFor i (S r))
 spotOf i (F r q v) = Spot.At (placeOf i (F r q v)) (entryFor i (F r q v))
 spotOf i (Decision v) = Spot.At (placeOf i (Decision v)) (entryFor i (Decision v))
 
--- process i handed m over at the depth k: both stores after it, and how many entries turned from 0
-pub record HandsOver (i : ℕ) (m : Message) (k : ℕ) (l d l′ d′ : List ℕ) (sent : ℕ) : Type 0 where
+-- process i handed m over at the depth k: both stores after it, how many messages that is, and how many of them had their entry sent before
+pub record HandsOver (i : ℕ) (m : Message) (k : ℕ) (l d l′ d′ : List ℕ) (t : Traffic) : Type 0 where
   pub store : l′ ≡ handOver i m l
   pub depths : d′ ≡ dated i m k l d
-  pub turns : sent ≡ turned i m l
+  pub sent : t .sent ≡ length (one i m)
+  pub again : t .again ≡ repeats i m l
 
 -- and then another
-pub record HandsOverBoth (i : ℕ) (m m′ : Message) (k : ℕ) (l d l′ d′ : List ℕ) (sent : ℕ) : Type 0 where
+pub record HandsOverBoth (i : ℕ) (m m′ : Message) (k : ℕ) (l d l′ d′ : List ℕ) (t : Traffic) : Type 0 where
   pub store : l′ ≡ handOver i m′ (handOver i m l)
   pub depths : d′ ≡ dated i m′ k (handOver i m l) (dated i m k l d)
-  pub turns : sent ≡ turned i m l + turned i m′ (handOver i m l)
+  pub sent : t .sent ≡ length (one i m) + length (one i m′)
+  pub again : t .again ≡ repeats i m l + repeats i m′ (handOver i m l)
 
 -- ---- what the functions ask
 

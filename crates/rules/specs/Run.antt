@@ -4,12 +4,11 @@ use mathlib.Core.List.{List, [], _∷_, _++_}
 use Prim.Native.Nat.{ℕ}
 use lib.ListN.{getD}
 use Rattle.rules.specs.declared.group.Group.{Group}
-use Rattle.rules.specs.declared.process.Message.{Message}
-use Rattle.rules.specs.declared.process.Message.the-variants.{Nothing, E, S, F, Decision}
 use Rattle.rules.specs.declared.step.Step.{Step}
+use Rattle.rules.specs.Store.{Handed, handed}
 use Rattle.rules.specs.Answers.{Outcome, Said}
 use Rattle.rules.specs.Start.{started, firstMessage}
-use Rattle.rules.specs.Step.{Course, Idles, Refuses, Takes, course, stepped}
+use Rattle.rules.specs.Step.{Course, Idles, Refuses, Takes, handedOf, course, stepped}
 
 -- the group, the store and the depths of its messages between two steps
 pub record State : Type 0 where
@@ -36,29 +35,13 @@ unfoldable pub answers : State → List Step → List Said
 answers a [] = []
 answers a (s ∷ ss) = stepped (a .group) (a .store) (a .depths) s .says ∷ answers (next a s) ss
 
--- ---- what was handed over: a message and the process that handed it over
-
-pub record Handed : Type 0 where
-  pub sender : ℕ
-  pub message : Message
-
-abbrev pub handed : ℕ → Message → Handed
-handed i m = record { sender = i; message = m }
-
--- the messages of an event: those of its two places that hold one
-unfoldable pub one : ℕ → Message → List Handed
-one i Nothing = []
-one i (E r q v) = handed i (E r q v) ∷ []
-one i (S r) = handed i (S r) ∷ []
-one i (F r q v) = handed i (F r q v) ∷ []
-one i (Decision v) = handed i (Decision v) ∷ []
+-- ---- what is handed over: by a course, by one step, and by a list of steps, in their order
 
 unfoldable pub handedByCourse : Course → List Handed
 handedByCourse Idles = []
 handedByCourse (Refuses k) = []
-handedByCourse (Takes i x) = one i (x .first) ++ one i (x .second)
+handedByCourse (Takes i x) = handedOf i x
 
--- by one step, and by a list of steps, in their order
 unfoldable pub handedBy : State → Step → List Handed
 handedBy a s = handedByCourse (course (a .group) (a .store) (a .depths) s)
 

@@ -9,20 +9,21 @@ use lib.Dec.{eqb}
 use lib.ListN.{length, getD}
 use Rattle.rules.specs.declared.group.Group.{Group}
 use Rattle.rules.specs.declared.process.Process.{Process}
-use Rattle.rules.specs.declared.process.Message.the-variants.{E, S, F, Decision}
+use Rattle.rules.specs.declared.process.Message.{Message}
+use Rattle.rules.specs.declared.process.Message.the-variants.{Nothing, E, S, F, Decision}
 use Rattle.rules.specs.declared.step.Step.{Step}
 use Rattle.rules.specs.declared.step.Step.the-variants.{DeliverE, DeliverS, DeliverF, DeliverDecision, Suspect, Pause, Crash, Recover}
 use Rattle.rules.specs.Limits.{greatestSize, values, mostRecoveries, tooMany, deepestMessage, deepestProcess, storeLength, majority}
 use Rattle.rules.specs.Tally.{holds, joined, within, bitOf}
 use Rattle.rules.specs.Layout.{processAt, depthAt, Sized, forgetting}
 use Rattle.rules.specs.Records.{Stored, stored, blank}
-use Rattle.rules.specs.Store.{slot, kindE, kindS, kindF, proposerOf, sentIn}
-use Rattle.rules.specs.Answers.{Said, allSent}
+use Rattle.rules.specs.Store.{slot, kindE, kindS, kindF, proposerOf, placeOf, entryFor, Handed, sentIn}
+use Rattle.rules.specs.Answers.{Said, allSent, allAgain}
 use Rattle.rules.specs.Kinds.{takerOf, delivers, isCut, entryIn}
 use Rattle.rules.specs.Idle.{inPhase, idle}
 use Rattle.rules.specs.Refusals.{strange, late, isRecover, down, refusal}
 use Rattle.rules.specs.Step.{stepped, Ready}
-use Rattle.rules.specs.Run.{State, startState, next, after, answers, Handed, handedFrom}
+use Rattle.rules.specs.Run.{State, startState, next, after, answers, handedBy, handedFrom}
 
 -- ---- runs
 
@@ -166,10 +167,15 @@ Delivers (Pause i) h = ⊥
 Delivers (Crash i) h = ⊥
 Delivers (Recover i) h = ⊥
 
--- it stands in the list
-pub data Among (s : Step) : List Handed → Type 0 where
-  here : {h : Handed} {hs : List Handed} → Delivers s h → Among s (h ∷ hs)
-  later : {h : Handed} {hs : List Handed} → Among s hs → Among s (h ∷ hs)
+-- h stands in a list; and a message that the step delivers does
+pub data In (h : Handed) : List Handed → Type 0 where
+  here : {hs : List Handed} → In h (h ∷ hs)
+  later : {k : Handed} {hs : List Handed} → In h hs → In h (k ∷ hs)
+
+pub record Among (s : Step) (hs : List Handed) : Type 0 where
+  pub handed : Handed
+  pub stands : In handed hs
+  pub delivered : Delivers s handed
 
 -- a delivery that none of 11 to 5 stops
 pub record Comes (g : Group) (s : Step) : Type 0 where
@@ -183,19 +189,20 @@ RefusalSix = EveryRun λ vs l d ss. (s : Step) → Comes (at vs l d ss .group) s
 
 -- ---- 6: the stores
 
--- an entry once sent stays sent, and its message keeps its depth: "Later handings over keep the first depth."
+-- an entry once sent stays as it is, and its message keeps its depth: "Later handings over keep the first depth."
 abbrev pub SentStays : Type 0
 SentStays = EveryRun λ vs l d ss. (ts : List Step) (k : ℕ) → k < storeLength → getD (at vs l d ss .store) k 0 ≢ 0
-    → (getD (after (at vs l d ss) ts .store) k 0 ≢ 0) × (messageDepth (after (at vs l d ss) ts) k ≡ messageDepth (at vs l d ss) k)
+    → (getD (after (at vs l d ss) ts .store) k 0 ≡ getD (at vs l d ss .store) k 0) × (messageDepth (after (at vs l d ss) ts) k ≡ messageDepth (at vs l d ss) k)
 
 -- what lies past 3,088 is as it was before the start
 abbrev pub PastKept : Type 0
 PastKept = EveryRun λ vs l d ss. (k : ℕ) → storeLength ≤ k
     → (getD (at vs l d ss .store) k 0 ≡ getD l k 0) × (messageDepth (at vs l d ss) k ≡ getD d k 0)
 
--- the sent entries number 1 and the sum of *sent* over all steps
+-- "1 + all sent − all again now equals the sent entries in the store."
 abbrev pub SentCounts : Type 0
-SentCounts = EveryRun λ vs l d ss. sentIn (at vs l d ss .store) storeLength ≡ 1 + allSent (answers (startState vs l d) ss)
+SentCounts = EveryRun λ vs l d ss.
+    1 + allSent (answers (startState vs l d) ss) ≡ sentIn (at vs l d ss .store) storeLength + allAgain (answers (startState vs l d) ss)
 
 -- records above n are as start left them, and their depths are 0
 abbrev pub AboveKept : Type 0
@@ -425,6 +432,42 @@ Longest vs l d ss i m = (m ≢ 0 → Ends vs l d ss i m) × ((k : ℕ) → Ends 
 abbrev pub DepthIsLongest : Type 0
 DepthIsLongest = EveryRun λ vs l d ss. (i : ℕ) → Of vs i → Longest vs l d ss i (processDepth (at vs l d ss) i)
 
+-- ---- 15: traffic
+
+-- a step of any group over any stores hands over at most two messages; *sent* is their number, and *again* is no more
+abbrev pub AtMostTwo : Type 0
+AtMostTwo = (a : State) (s : Step) → (says a s .sent ≡ length (handedBy a s)) × (length (handedBy a s) ≤ 2) × (says a s .again ≤ says a s .sent)
+
+-- one of a run at most one
+abbrev pub AtMostOne : Type 0
+AtMostOne = EveryRun λ vs l d ss. (s : Step) → length (handedBy (at vs l d ss) s) ≤ 1
+
+-- the place of a message that is handed over, and its entry: its proposer and its value
+abbrev pub placeFor : Handed → ℕ
+placeFor h = placeOf (h .sender) (h .message)
+
+abbrev pub entryHanded : Handed → ℕ
+entryHanded h = entryFor (h .sender) (h .message)
+
+-- it is an E
+unfoldable pub isE : Message → Bool
+isE Nothing = false
+isE (E r q v) = true
+isE (S r) = false
+isE (F r q v) = false
+isE (Decision v) = false
+
+-- a message that a step hands over where its entry is sent is an E with that very entry: "A repeated entry is shown to carry the same estimate in every run from a start."
+abbrev pub EqualRepeats : Type 0
+EqualRepeats = EveryRun λ vs l d ss. (s : Step) (h : Handed) → In h (handedBy (at vs l d ss) s) → getD (at vs l d ss .store) (placeFor h) 0 ≢ 0
+    → (isE (h .message) ≡ true) × (entryHanded h ≡ getD (at vs l d ss .store) (placeFor h) 0)
+
+-- the same said of all that is handed over: where the start or one of the steps ss handed h over, and the next step hands k over at the same place, k is an E, and has the entry of h.
+-- So no S, F or decision is ever handed over twice
+abbrev pub OnlyERepeats : Type 0
+OnlyERepeats = EveryRun λ vs l d ss. (s : Step) (h k : Handed) → In h (handedFrom vs l d ss) → In k (handedBy (at vs l d ss) s) → placeFor h ≡ placeFor k
+    → (isE (k .message) ≡ true) × (entryHanded k ≡ entryHanded h)
+
 -- ---- demand 3, in its words, and all of the above
 
 -- Start 1 to 16 processes with any values, let nothing but steps write the store, apply any finite list of steps: no two processes ever hold different decisions, each decided
@@ -462,3 +505,7 @@ pub record Safety : Type 0 where
   pub decision-depth : DecisionDepthStays
   pub two-steps : TwoSteps
   pub longest : DepthIsLongest
+  pub two : AtMostTwo
+  pub one : AtMostOne
+  pub equal : EqualRepeats
+  pub only-e : OnlyERepeats

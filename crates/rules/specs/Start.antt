@@ -36,10 +36,10 @@ opened v l = handOver 1 (firstMessage v) (cleared storeLength l)
 unfoldable pub openedDepths : ℕ → List ℕ → List ℕ → List ℕ
 openedDepths v l d = dated 1 (firstMessage v) 0 (cleared storeLength l) (cleared storeLength d)
 
--- not refused: applied, and that one entry turns from 0. Refused: "a group of size 0"
+-- not refused: applied, with that one message handed over. Refused: "a group of size 0"
 unfoldable pub unlessRefusedStart : ℕ → List ℕ → List ℕ → List ℕ → Outcome
 unlessRefusedStart zero vs l d =
-    outcome (startedTo vs (length vs)) (opened (getD vs 0 0) l) (openedDepths (getD vs 0 0) l d) (saysApplied 1 false)
+    outcome (startedTo vs (length vs)) (opened (getD vs 0 0) l) (openedDepths (getD vs 0 0) l d) (saysApplied 1 0 false)
 unlessRefusedStart (suc k) vs l d = refused (blankGroup 0) l d (suc k)
 
 unfoldable pub started : List ℕ → List ℕ → List ℕ → Outcome

@@ -1,7 +1,7 @@
 -- Document 01, "Steps": a step, whole. "Every step is applied, idle or refused; refusals are tested before idleness". Assumes nothing.
 use mathlib.Core.Path.{_≡_}
 use mathlib.Core.Bool.{Bool, true, false, _&&_, not}
-use mathlib.Core.List.{List}
+use mathlib.Core.List.{List, _++_}
 use Prim.Native.Nat.{ℕ, zero, suc, _+_, _≤_}
 use lib.ListN.{length}
 use Rattle.rules.specs.declared.group.Group.{Group}
@@ -10,7 +10,7 @@ use Rattle.rules.specs.declared.process.Next.{Next}
 use Rattle.rules.specs.declared.step.Step.{Step}
 use Rattle.rules.specs.Limits.{storeLength}
 use Rattle.rules.specs.Layout.{processAt, withProcess, withDepth}
-use Rattle.rules.specs.Store.{handOver, turned}
+use Rattle.rules.specs.Store.{handOver, Handed, one, repeats}
 use Rattle.rules.specs.Answers.{Outcome, outcome, refused, saysApplied, saysIdle}
 use Rattle.rules.specs.Events.{onCrash, cutIf}
 use Rattle.rules.specs.Kinds.{takerOf, isCut, eventOf}
@@ -44,12 +44,19 @@ course g l d s = unlessRefused (refusal g l d s) g l s
 
 -- ---- its outcome
 
--- the store after process i handed over the messages of x, the first first, and how many entries turned from 0
+-- the messages that process i hands over with x: those of its two places that hold one, the first first; and the store after them
+unfoldable pub handedOf : ℕ → Next → List Handed
+handedOf i x = one i (x .first) ++ one i (x .second)
+
 unfoldable pub handOvers : ℕ → Next → List ℕ → List ℕ
 handOvers i x l = handOver i (x .second) (handOver i (x .first) l)
 
-unfoldable pub sentBy : ℕ → Next → List ℕ → ℕ
-sentBy i x l = turned i (x .first) l + turned i (x .second) (handOver i (x .first) l)
+-- "*Sent* counts every message handed over, and a new field *again*, right after it, counts those whose entry was sent before."
+unfoldable pub sentBy : ℕ → Next → ℕ
+sentBy i x = length (handedOf i x)
+
+unfoldable pub againBy : ℕ → Next → List ℕ → ℕ
+againBy i x l = repeats i (x .first) l + repeats i (x .second) (handOver i (x .first) l)
 
 -- whether a process that was p decides by becoming q
 unfoldable pub decidesNow : Process → Process → Bool
@@ -61,7 +68,7 @@ settled g l d k Idles = outcome g l d saysIdle
 settled g l d k (Refuses j) = refused g l d j
 settled g l d k (Takes i x) =
     outcome (withDepth (withProcess g i (x .process)) i k) (handOvers i x l) (datedBoth i x k l d)
-    (saysApplied (sentBy i x l) (decidesNow (processAt g i) (x .process)))
+    (saysApplied (sentBy i x) (againBy i x l) (decidesNow (processAt g i) (x .process)))
 
 unfoldable pub stepped : Group → List ℕ → List ℕ → Step → Outcome
 stepped g l d s = settled g l d (depthAfter g d s) (course g l d s)

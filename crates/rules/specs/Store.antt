@@ -1,12 +1,10 @@
 -- Document 01, "Records and the message store": the places of the store, its entries, and handing over. Assumes nothing.
 use mathlib.Core.List.{List, [], _∷_, _++_}
 use Prim.Native.Nat.{ℕ, zero, suc, _+_, _-_, _*_, _/_, _%_}
-use lib.Dec.{eqb}
 use lib.ListN.{getD, set, drop, replicate}
 use Rattle.rules.specs.declared.process.Message.{Message}
 use Rattle.rules.specs.declared.process.Message.the-variants.{Nothing, E, S, F, Decision}
 use Rattle.rules.specs.Limits.{greatestSize, values, storeLength}
-use Rattle.rules.specs.Tally.{bitOf}
 
 -- the kinds of messages that have a round
 abbrev pub kindE : ℕ
@@ -68,22 +66,38 @@ handOver i (S r) l = set l (placeOf i (S r)) (entryFor i (S r))
 handOver i (F r q v) l = set l (placeOf i (F r q v)) (entryFor i (F r q v))
 handOver i (Decision v) l = set l (placeOf i (Decision v)) (entryFor i (Decision v))
 
--- "0 means not sent." How many entries turn from 0 as process i hands m over
-unfoldable pub turned : ℕ → Message → List ℕ → ℕ
-turned i Nothing l = 0
-turned i (E r q v) l = bitOf (eqb (getD l (placeOf i (E r q v)) 0) 0)
-turned i (S r) l = bitOf (eqb (getD l (placeOf i (S r)) 0) 0)
-turned i (F r q v) l = bitOf (eqb (getD l (placeOf i (F r q v)) 0) 0)
-turned i (Decision v) l = bitOf (eqb (getD l (placeOf i (Decision v)) 0) 0)
+-- what is handed over: a message and the process that hands it over
+pub record Handed : Type 0 where
+  pub sender : ℕ
+  pub message : Message
+
+abbrev pub handed : ℕ → Message → Handed
+handed i m = record { sender = i; message = m }
+
+-- by process i with m, where that is a message
+unfoldable pub one : ℕ → Message → List Handed
+one i Nothing = []
+one i (E r q v) = handed i (E r q v) ∷ []
+one i (S r) = handed i (S r) ∷ []
+one i (F r q v) = handed i (F r q v) ∷ []
+one i (Decision v) = handed i (Decision v) ∷ []
+
+-- "0 means not sent.": 1 for an entry that is sent
+abbrev pub sentBit : ℕ → ℕ
+sentBit zero = 0
+sentBit (suc e) = 1
+
+-- Request 2026-05, "those whose entry was sent before": 1 where process i hands m over to the store l and its entry in l is sent
+unfoldable pub repeats : ℕ → Message → List ℕ → ℕ
+repeats i Nothing l = 0
+repeats i (E r q v) l = sentBit (getD l (placeOf i (E r q v)) 0)
+repeats i (S r) l = sentBit (getD l (placeOf i (S r)) 0)
+repeats i (F r q v) l = sentBit (getD l (placeOf i (F r q v)) 0)
+repeats i (Decision v) l = sentBit (getD l (placeOf i (Decision v)) 0)
 
 -- the list l with its first n entries 0
 unfoldable pub cleared : ℕ → List ℕ → List ℕ
 cleared n l = replicate n 0 ++ drop n l
-
--- 1 for an entry that is sent
-abbrev pub sentBit : ℕ → ℕ
-sentBit zero = 0
-sentBit (suc e) = 1
 
 -- how many of the first n entries of l are sent
 unfoldable pub sentIn : List ℕ → ℕ → ℕ

@@ -1,10 +1,10 @@
--- Document 01, "Runs to hold it against": the runs marked (P), as one table, and two runs for request 2026-03. Its statement is `tableHolds ≡ true`, in proofs/Table.antt. Assumes nothing.
+-- Document 01, "Runs to hold it against": the runs marked (P), as one table, and runs for requests 2026-03 and 2026-05. Its statement is `tableHolds ≡ true`, in proofs/Table.antt. Assumes nothing.
 -- "Each run begins at a fresh start." Where the document names no values, they are 7, 9, 5 as in its example, and 0 to 15 for n = 16.
 use mathlib.Core.Bool.{Bool, true, false, _&&_, Bool·beq}
 use mathlib.Core.List.{List, [], _∷_}
 use Prim.Native.Nat.{ℕ}
 use lib.Dec.{eqb}
-use lib.ListN.{getD, replicate, take, drop}
+use lib.ListN.{getD, set, replicate, take, drop}
 use Rattle.rules.specs.declared.group.Group.{Group}
 use Rattle.rules.specs.declared.process.Process.{Process}
 use Rattle.rules.specs.declared.step.Step.{Step}
@@ -12,10 +12,11 @@ use Rattle.rules.specs.declared.step.Step.the-variants.{DeliverE, Delive
 use Rattle.rules.specs.Limits.{storeLength}
 use Rattle.rules.specs.Tally.{bitOf}
 use Rattle.rules.specs.Layout.{processAt}
-use Rattle.rules.specs.Store.{placeOf, entryFor}
-use Rattle.rules.specs.Answers.{Said, saysApplied, saysIdle, saysRefused, isRefused, total, allSent}
+use Rattle.rules.specs.Store.{placeOf, entryFor, Handed}
+use Rattle.rules.specs.Answers.{Said, saysApplied, saysIdle, saysRefused, isRefused, total, allSent, allAgain}
+use Rattle.rules.specs.Start.{startedTo}
 use Rattle.rules.specs.Step.{stepped}
-use Rattle.rules.specs.Run.{State, stateOf, startState, after, answers, Handed, handedBy}
+use Rattle.rules.specs.Run.{State, stateOf, startState, after, answers, handedBy}
 use Rattle.rules.specs.DepthTable.{depthsHold, depthTable}
 
 -- ---- a run of the table
@@ -100,7 +101,7 @@ unfoldable pub sameSaid : Said → Said → Bool
 sameSaid a b =
     Bool·beq (a .applied) (b .applied)
     && (Bool·beq (a .idle) (b .idle)
-    && (eqb (a .refusal) (b .refusal) && (eqb (a .sent) (b .sent) && Bool·beq (a .decided) (b .decided))))
+    && (eqb (a .refusal) (b .refusal) && (eqb (a .sent) (b .sent) && (eqb (a .again) (b .again) && Bool·beq (a .decided) (b .decided)))))
 
 -- the record p is as seen
 unfoldable pub looks : Process → Seen → Bool
@@ -155,7 +156,7 @@ unfoldable pub stepsOf : List Line → List Step
 stepsOf [] = []
 stepsOf (x ∷ rest) = x .step ∷ stepsOf rest
 
--- these answers make the numbers of a section's line: "those applied, idle and refused, then sent and decided"
+-- these answers make the numbers of a section's line: "those applied, idle and refused, then sent and decided", with again right after sent
 unfoldable pub addUp : List Said → List ℕ → Bool
 addUp as′ ns =
     sameNumbers
@@ -163,6 +164,7 @@ addUp as′ ns =
     ∷ total (λ a. bitOf (a .idle)) as′
     ∷ total (λ a. bitOf (isRefused a)) as′
     ∷ allSent as′
+    ∷ allAgain as′
     ∷ total (λ a. bitOf (a .decided)) as′
     ∷ [])
     ns
@@ -177,30 +179,30 @@ runAbove =
     record {
       values = 7 ∷ 9 ∷ 5 ∷ [];
       lines =
-          line (DeliverE 1 1 0 false) (saysApplied 0 false) (upNow 1 0 1 1 7)
-          ∷ line (DeliverE 2 1 0 false) (saysApplied 1 false) (upNow 2 0 1 1 7)
-          ∷ line (DeliverE 2 2 0 false) (saysApplied 1 true) (decidedNow 2 0 1 1 7 7)
+          line (DeliverE 1 1 0 false) (saysApplied 0 0 false) (upNow 1 0 1 1 7)
+          ∷ line (DeliverE 2 1 0 false) (saysApplied 1 0 false) (upNow 2 0 1 1 7)
+          ∷ line (DeliverE 2 2 0 false) (saysApplied 1 0 true) (decidedNow 2 0 1 1 7 7)
           ∷ line (DeliverE 3 2 1 false) (saysRefused 6) (upNow 3 0 1 3 5)
-          ∷ line (DeliverDecision 3 2 false) (saysApplied 1 true) (decidedNow 3 0 1 3 5 7)
+          ∷ line (DeliverDecision 3 2 false) (saysApplied 1 0 true) (decidedNow 3 0 1 3 5 7)
           ∷ [];
       processes = upNow 1 0 1 1 7 ∷ decidedNow 2 0 1 1 7 7 ∷ decidedNow 3 0 1 3 5 7 ∷ [];
       entries = entryAt 3073 8_589_934_599 ∷ entryAt 3074 12_884_901_895 ∷ [];
     }
 
--- its two section lines: `WARMUP 1 applied 1 idle 0 refused 0 sent 0 decided 0` and `MEASURED 4 applied 3 idle 0 refused 1 sent 3 decided 2`
+-- its two section lines: `WARMUP 1 applied 1 idle 0 refused 0 sent 0 again 0 decided 0` and `MEASURED 4 applied 3 idle 0 refused 1 sent 3 again 0 decided 2`
 unfoldable pub sectionsAbove : Bool
 sectionsAbove =
     let start = startState (runAbove .values) (replicate storeLength 0) (replicate storeLength 0) in
     let steps = stepsOf (runAbove .lines) in
-    addUp (answers start (take 1 steps)) (1 ∷ 0 ∷ 0 ∷ 0 ∷ 0 ∷ [])
-    && addUp (answers (after start (take 1 steps)) (drop 1 steps)) (3 ∷ 0 ∷ 1 ∷ 3 ∷ 2 ∷ [])
+    addUp (answers start (take 1 steps)) (1 ∷ 0 ∷ 0 ∷ 0 ∷ 0 ∷ 0 ∷ [])
+    && addUp (answers (after start (take 1 steps)) (drop 1 steps)) (3 ∷ 0 ∷ 1 ∷ 3 ∷ 0 ∷ 2 ∷ [])
 
 -- "n = 1, value 0: `E 1 1 0` decides 0."
 unfoldable pub oneDecides : Row
 oneDecides =
     record {
       values = 0 ∷ [];
-      lines = line (DeliverE 1 1 0 false) (saysApplied 1 true) (decidedNow 1 0 1 1 0 0) ∷ [];
+      lines = line (DeliverE 1 1 0 false) (saysApplied 1 0 true) (decidedNow 1 0 1 1 0 0) ∷ [];
       processes = [];
       entries = [];
     }
@@ -212,10 +214,10 @@ oneEntersRound1 =
     record {
       values = 7 ∷ [];
       lines =
-          line (Suspect 1 false) (saysApplied 1 false) (upNow 1 0 1 1 7)
-          ∷ line (DeliverS 1 1 0 false) (saysApplied 1 false) (upNow 1 0 2 1 7)
-          ∷ handing (entryAt 48 4_294_967_303 ∷ []) (DeliverF 1 1 0 false) (saysApplied 1 false) (upNow 1 1 1 1 7)
-          ∷ line (Suspect 1 false) (saysApplied 1 false) (upNow 1 1 1 1 7)
+          line (Suspect 1 false) (saysApplied 1 0 false) (upNow 1 0 1 1 7)
+          ∷ line (DeliverS 1 1 0 false) (saysApplied 1 0 false) (upNow 1 0 2 1 7)
+          ∷ handing (entryAt 48 4_294_967_303 ∷ []) (DeliverF 1 1 0 false) (saysApplied 1 0 false) (upNow 1 1 1 1 7)
+          ∷ line (Suspect 1 false) (saysApplied 1 0 false) (upNow 1 1 1 1 7)
           ∷ [];
       processes = [];
       entries = entryAt 48 4_294_967_303 ∷ [];
@@ -227,7 +229,7 @@ repeatIsIdle =
     record {
       values = 7 ∷ 9 ∷ [];
       lines =
-          line (DeliverE 2 1 0 false) (saysApplied 1 false) (upNow 2 0 1 1 7)
+          line (DeliverE 2 1 0 false) (saysApplied 1 0 false) (upNow 2 0 1 1 7)
           ∷ line (DeliverE 2 1 0 false) saysIdle (upNow 2 0 1 1 7)
           ∷ [];
       processes = [];
@@ -241,7 +243,7 @@ suspectTwice =
     record {
       values = 7 ∷ 9 ∷ 5 ∷ [];
       lines =
-          line (Suspect 2 false) (saysApplied 1 false) (upNow 2 0 1 2 9)
+          line (Suspect 2 false) (saysApplied 1 0 false) (upNow 2 0 1 2 9)
           ∷ line (Suspect 2 false) (saysRefused 7) (upNow 2 0 1 2 9)
           ∷ [];
       processes = [];
@@ -254,7 +256,7 @@ crashTwice =
     record {
       values = 7 ∷ 9 ∷ 5 ∷ [];
       lines =
-          line (Crash 2) (saysApplied 0 false) (downNow 2 0 1 2 9) ∷ line (Crash 2) (saysRefused 5) (downNow 2 0 1 2 9) ∷ [];
+          line (Crash 2) (saysApplied 0 0 false) (downNow 2 0 1 2 9) ∷ line (Crash 2) (saysRefused 5) (downNow 2 0 1 2 9) ∷ [];
       processes = [];
       entries = [];
     }
@@ -299,23 +301,23 @@ fiveProcesses =
     record {
       values = 7 ∷ 9 ∷ 5 ∷ 4 ∷ 3 ∷ [];
       lines =
-          line (DeliverE 1 1 0 false) (saysApplied 0 false) (upNow 1 0 1 1 7)
-          ∷ line (DeliverE 3 1 0 false) (saysApplied 1 false) (upNow 3 0 1 1 7)
-          ∷ line (DeliverE 4 1 0 false) (saysApplied 1 false) (upNow 4 0 1 1 7)
-          ∷ line (DeliverE 1 3 0 false) (saysApplied 0 false) (upNow 1 0 1 1 7)
-          ∷ line (DeliverE 1 4 0 false) (saysApplied 1 true) (decidedNow 1 0 1 1 7 7)
-          ∷ line (Suspect 2 false) (saysApplied 1 false) (upNow 2 0 1 2 9)
-          ∷ line (Suspect 3 false) (saysApplied 1 false) (upNow 3 0 1 1 7)
-          ∷ line (Suspect 5 false) (saysApplied 1 false) (upNow 5 0 1 5 3)
-          ∷ line (DeliverS 2 2 0 false) (saysApplied 0 false) (upNow 2 0 1 2 9)
-          ∷ line (DeliverS 2 3 0 false) (saysApplied 0 false) (upNow 2 0 1 2 9)
-          ∷ line (DeliverS 2 5 0 false) (saysApplied 1 false) (upNow 2 0 2 2 9)
-          ∷ line (DeliverF 5 2 0 false) (saysApplied 1 false) (upNow 5 0 2 5 3)
+          line (DeliverE 1 1 0 false) (saysApplied 0 0 false) (upNow 1 0 1 1 7)
+          ∷ line (DeliverE 3 1 0 false) (saysApplied 1 0 false) (upNow 3 0 1 1 7)
+          ∷ line (DeliverE 4 1 0 false) (saysApplied 1 0 false) (upNow 4 0 1 1 7)
+          ∷ line (DeliverE 1 3 0 false) (saysApplied 0 0 false) (upNow 1 0 1 1 7)
+          ∷ line (DeliverE 1 4 0 false) (saysApplied 1 0 true) (decidedNow 1 0 1 1 7 7)
+          ∷ line (Suspect 2 false) (saysApplied 1 0 false) (upNow 2 0 1 2 9)
+          ∷ line (Suspect 3 false) (saysApplied 1 0 false) (upNow 3 0 1 1 7)
+          ∷ line (Suspect 5 false) (saysApplied 1 0 false) (upNow 5 0 1 5 3)
+          ∷ line (DeliverS 2 2 0 false) (saysApplied 0 0 false) (upNow 2 0 1 2 9)
+          ∷ line (DeliverS 2 3 0 false) (saysApplied 0 0 false) (upNow 2 0 1 2 9)
+          ∷ line (DeliverS 2 5 0 false) (saysApplied 1 0 false) (upNow 2 0 2 2 9)
+          ∷ line (DeliverF 5 2 0 false) (saysApplied 1 0 false) (upNow 5 0 2 5 3)
           ∷ line (DeliverS 5 2 0 false) saysIdle (upNow 5 0 2 5 3)
           ∷ line (DeliverS 5 3 0 false) saysIdle (upNow 5 0 2 5 3)
           ∷ line (DeliverS 5 5 0 false) saysIdle (upNow 5 0 2 5 3)
-          ∷ line (DeliverF 2 2 0 false) (saysApplied 0 false) (upNow 2 0 2 2 9)
-          ∷ line (DeliverF 2 5 0 false) (saysApplied 0 false) (upNow 2 0 2 2 9)
+          ∷ line (DeliverF 2 2 0 false) (saysApplied 0 0 false) (upNow 2 0 2 2 9)
+          ∷ line (DeliverF 2 5 0 false) (saysApplied 0 0 false) (upNow 2 0 2 2 9)
           ∷ line (DeliverF 2 5 0 false) saysIdle (upNow 2 0 2 2 9)
           ∷ [];
       processes =
@@ -323,21 +325,47 @@ fiveProcesses =
       entries = [];
     }
 
--- "n = 3: `E 2 1 0`, `C 2`, `R 2`, `E 2 1 0`: relayed again, same entry; *sent* is 0 for that last step."
+-- "n = 3: `E 2 1 0`, `C 2`, `R 2`, `E 2 1 0`: relayed again, same entry". Request 2026-05: "Document 01's repeated relay case becomes sent 1, again 1 for its last step."
 -- The E of process 2 stands at (0×16 + 2−1)×3 + 0 = 3, and is 1 × 2^32 + 7.
 unfoldable pub relayedAgain : Row
 relayedAgain =
     record {
       values = 7 ∷ 9 ∷ 5 ∷ [];
       lines =
-          line (DeliverE 2 1 0 false) (saysApplied 1 false) (upNow 2 0 1 1 7)
-          ∷ line (Crash 2) (saysApplied 0 false) (downNow 2 0 1 1 7)
-          ∷ line (Recover 2) (saysApplied 0 false) (backNow 2 0 1 1 7 1)
-          ∷ handing (entryAt 3 4_294_967_303 ∷ []) (DeliverE 2 1 0 false) (saysApplied 0 false) (backNow 2 0 1 1 7 1)
+          line (DeliverE 2 1 0 false) (saysApplied 1 0 false) (upNow 2 0 1 1 7)
+          ∷ line (Crash 2) (saysApplied 0 0 false) (downNow 2 0 1 1 7)
+          ∷ line (Recover 2) (saysApplied 0 0 false) (backNow 2 0 1 1 7 1)
+          ∷ handing (entryAt 3 4_294_967_303 ∷ []) (DeliverE 2 1 0 false) (saysApplied 1 1 false) (backNow 2 0 1 1 7 1)
           ∷ [];
       processes = [];
       entries = entryAt 3 4_294_967_303 ∷ [];
     }
+
+-- and cut: "no message is handed over", so that neither counts it, although its entry was sent before
+unfoldable pub relayCut : Row
+relayCut =
+    record {
+      values = 7 ∷ 9 ∷ 5 ∷ [];
+      lines =
+          line (DeliverE 2 1 0 false) (saysApplied 1 0 false) (upNow 2 0 1 1 7)
+          ∷ line (Crash 2) (saysApplied 0 0 false) (downNow 2 0 1 1 7)
+          ∷ line (Recover 2) (saysApplied 0 0 false) (backNow 2 0 1 1 7 1)
+          ∷ handing [] (DeliverE 2 1 0 true) (saysApplied 0 0 false) (downAgain 2 0 1 1 7 1)
+          ∷ [];
+      processes = [];
+      entries = entryAt 3 4_294_967_303 ∷ [];
+    }
+
+-- the section line of the repeated relay: `4 applied 4 idle 0 refused 0 sent 2 again 1 decided 0`
+unfoldable pub sectionAgain : Bool
+sectionAgain =
+    addUp (answers (startState (relayedAgain .values) (replicate storeLength 0) (replicate storeLength 0)) (stepsOf (relayedAgain .lines)))
+    (4 ∷ 0 ∷ 0 ∷ 2 ∷ 1 ∷ 0 ∷ [])
+
+-- no run does this: of n = 1 in phase 1 with its F of round 0, which stands at 2, in the store, `F 1 1 0` hands over that F, whose entry was sent before, and the E of round 1
+unfoldable pub twoAtOnce : Bool
+twoAtOnce =
+    sameSaid (stepped (startedTo (7 ∷ []) 1) (set (replicate storeLength 0) 2 4_294_967_303) (replicate storeLength 0) (DeliverF 1 1 0 false) .says) (saysApplied 2 1 false)
 
 -- "Down, everything kept": after a pause and a recovery the same E is idle, and nothing is relayed
 unfoldable pub pauseKeepsTallies : Row
@@ -345,9 +373,9 @@ pauseKeepsTallies =
     record {
       values = 7 ∷ 9 ∷ 5 ∷ [];
       lines =
-          line (DeliverE 2 1 0 false) (saysApplied 1 false) (upNow 2 0 1 1 7)
-          ∷ line (Pause 2) (saysApplied 0 false) (downNow 2 0 1 1 7)
-          ∷ line (Recover 2) (saysApplied 0 false) (backNow 2 0 1 1 7 1)
+          line (DeliverE 2 1 0 false) (saysApplied 1 0 false) (upNow 2 0 1 1 7)
+          ∷ line (Pause 2) (saysApplied 0 0 false) (downNow 2 0 1 1 7)
+          ∷ line (Recover 2) (saysApplied 0 0 false) (backNow 2 0 1 1 7 1)
           ∷ handing [] (DeliverE 2 1 0 false) saysIdle (backNow 2 0 1 1 7 1)
           ∷ [];
       processes = [];
@@ -360,11 +388,11 @@ comesBack =
     record {
       values = 7 ∷ 9 ∷ 5 ∷ [];
       lines =
-          line (Pause 2) (saysApplied 0 false) (downNow 2 0 1 2 9)
-          ∷ line (Recover 2) (saysApplied 0 false) (backNow 2 0 1 2 9 1)
+          line (Pause 2) (saysApplied 0 0 false) (downNow 2 0 1 2 9)
+          ∷ line (Recover 2) (saysApplied 0 0 false) (backNow 2 0 1 2 9 1)
           ∷ line (Recover 2) (saysRefused 7) (backNow 2 0 1 2 9 1)
-          ∷ line (Crash 2) (saysApplied 0 false) (downAgain 2 0 1 2 9 1)
-          ∷ line (Recover 2) (saysApplied 0 false) (backNow 2 0 1 2 9 2)
+          ∷ line (Crash 2) (saysApplied 0 0 false) (downAgain 2 0 1 2 9 1)
+          ∷ line (Recover 2) (saysApplied 0 0 false) (backNow 2 0 1 2 9 2)
           ∷ [];
       processes = upNow 1 0 1 1 7 ∷ upNow 3 0 1 3 5 ∷ [];
       entries = [];
@@ -376,8 +404,8 @@ comesBackFromACut =
     record {
       values = 7 ∷ 9 ∷ 5 ∷ [];
       lines =
-          line (DeliverE 2 1 0 true) (saysApplied 0 false) (downNow 2 0 1 1 7)
-          ∷ line (Recover 2) (saysApplied 0 false) (backNow 2 0 1 1 7 1)
+          line (DeliverE 2 1 0 true) (saysApplied 0 0 false) (downNow 2 0 1 1 7)
+          ∷ line (Recover 2) (saysApplied 0 0 false) (backNow 2 0 1 1 7 1)
           ∷ [];
       processes = [];
       entries = entryAt 3 0 ∷ [];
@@ -398,6 +426,7 @@ table =
     ∷ round63
     ∷ fiveProcesses
     ∷ relayedAgain
+    ∷ relayCut
     ∷ pauseKeepsTallies
     ∷ comesBack
     ∷ comesBackFromACut
@@ -405,4 +434,4 @@ table =
 
 -- all of it, with the depths of the worked runs of request 2026-06
 unfoldable pub tableHolds : Bool
-tableHolds = holdsAll table && (sectionsAbove && depthsHold depthTable)
+tableHolds = holdsAll table && (sectionsAbove && (sectionAgain && (twoAtOnce && depthsHold depthTable)))

@@ -110,6 +110,7 @@ impl Group {
             group: group,
             answer: Answer::Applied {
                 sent: 1,
+                again: 0,
                 decided: false,
             },
         }

@@ -40,9 +40,10 @@ pub enum Step {
     },
 }
 
-// What a step answers: idle; applied, with how many entries turned from 0 and whether the process decided; or refused, with the number.
+// What a step answers: idle; applied, with how many messages were handed over, how many of them again, their entry sent before, and whether the process decided;
+// or refused, with the number.
 pub enum Answer {
     Idle,
-    Applied { sent: u8, decided: bool },
+    Applied { sent: u8, again: u8, decided: bool },
     Refused(u8),
 }

@@ -2,13 +2,11 @@
 // Beside it stands a second store: the depth of each message, at the same place.
 ghost use mathlib.Core.Path.{_≡_};
 ghost use Prim.Native.Nat.{_≤_, _<_};
-ghost use lib.Dec.{eqb};
 ghost use lib.ListN.{length, getD, set};
 ghost use Rattle.rules.specs.Limits as limits;
 ghost use Rattle.rules.specs.Store as stores;
 ghost use Rattle.rules.specs.Depths as dates;
 ghost use Rattle.rules.specs.Private as private;
-ghost use Rattle.rules.specs.Tally.{bitOf};
 use crate::group::Group;
 use crate::process::Message;
 use crate::process::Process;
@@ -17,6 +15,12 @@ use crate::process::Process;
 pub enum Spot {
     Nowhere,
     At(usize, u64),
+}
+
+// How many messages were handed over, and how many of them again: their entry was sent before.
+pub struct Traffic {
+    pub sent: u8,
+    pub again: u8,
 }
 
 // The store itself is a slice of 64-bit entries that the caller lends, and the depths one of 16-bit numbers; this type has their limits.
@@ -100,7 +104,7 @@ impl Store {
         (entry % Store::VALUES) as u32
     }
 
-    // Writes an entry, and answers 1 where it turns from 0: the message then gets the depth.
+    // Writes an entry, and answers 1 where it was sent before; where it was not, the message gets the depth.
     pub(crate) fn write(
         store: &mut [u64],
         depths: &mut [u16],
@@ -109,15 +113,15 @@ impl Store {
         entry: u64,
     ) -> u8
         requires { ⌜ (at < length (now store)) × (at < length (now depths)) ⌝ }
-        ensures { λ r. ⌜ (now (store .exit) ≡ set (now (store .entry)) at entry) × (now (depths .exit) ≡ dates.datedAt at depth (now (store .entry)) (now (depths .entry))) × (r ≡ bitOf (eqb (getD (now (store .entry)) at 0) 0)) ⌝ }
+        ensures { λ r. ⌜ (now (store .exit) ≡ set (now (store .entry)) at entry) × (now (depths .exit) ≡ dates.datedAt at depth (now (store .entry)) (now (depths .entry))) × (r ≡ stores.sentBit (getD (now (store .entry)) at 0)) ⌝ }
     {
         let old = store[at];
         store[at] = entry;
         if old != 0 {
-            return 0;
+            return 1;
         }
         depths[at] = depth;
-        1
+        0
     }
 
     // Where a message of process i stands, and its entry.
@@ -152,21 +156,24 @@ impl Store {
         }
     }
 
-    // Process i hands a message over at a depth. Answers how many entries turn from 0.
+    // Process i hands a message over at a depth, if there is one.
     pub(crate) fn hand_over(
         store: &mut [u64],
         depths: &mut [u16],
         depth: u16,
         i: u8,
         message: Message,
-    ) -> u8
+    ) -> Traffic
         requires { ⌜ (1 ≤ i) × (i ≤ limits.greatestSize) × (stores.messageRound message ≤ limits.lastRound) × (limits.storeLength ≤ length (now store)) × (limits.storeLength ≤ length (now depths)) ⌝ }
         ensures { λ r. ⌜ private.HandsOver i message depth (now (store .entry)) (now (depths .entry)) (now (store .exit)) (now (depths .exit)) r ⌝ }
     {
         let spot = Store::spot(i, message);
         match spot {
-            Spot::Nowhere => 0,
-            Spot::At(at, entry) => Store::write(store, depths, depth, at, entry),
+            Spot::Nowhere => Traffic { sent: 0, again: 0 },
+            Spot::At(at, entry) => {
+                let again = Store::write(store, depths, depth, at, entry);
+                Traffic { sent: 1, again }
+            }
         }
     }
 
@@ -178,13 +185,16 @@ impl Store {
         i: u8,
         first: Message,
         second: Message,
-    ) -> u8
+    ) -> Traffic
         requires { ⌜ (1 ≤ i) × (i ≤ limits.greatestSize) × (stores.messageRound first ≤ limits.lastRound) × (stores.messageRound second ≤ limits.lastRound) × (limits.storeLength ≤ length (now store)) × (limits.storeLength ≤ length (now depths)) ⌝ }
         ensures { λ r. ⌜ private.HandsOverBoth i first second depth (now (store .entry)) (now (depths .entry)) (now (store .exit)) (now (depths .exit)) r ⌝ }
     {
-        let sent = Store::hand_over(store, depths, depth, i, first);
-        let more = Store::hand_over(store, depths, depth, i, second);
-        sent + more
+        let one = Store::hand_over(store, depths, depth, i, first);
+        let two = Store::hand_over(store, depths, depth, i, second);
+        Traffic {
+            sent: one.sent + two.sent,
+            again: one.again + two.again,
+        }
     }
 
     // Clears the entries and the depths, and nothing past them.

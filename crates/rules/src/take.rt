@@ -62,10 +62,11 @@ pub(crate) fn finish(
     let before = group::decided_of(flags, i);
     let depth = higher(group::depth_of(halves, i), lift);
     group::put_deep(words, halves, bytes, flags, i, process, depth);
-    let sent = Store::hand_over_both(store, depths, depth, i, first, second);
+    let traffic = Store::hand_over_both(store, depths, depth, i, first, second);
     let decided = decides_now(before, process.decided);
     let applied = Answer::Applied {
-        sent: sent,
+        sent: traffic.sent,
+        again: traffic.again,
         decided: decided,
     };
     applied

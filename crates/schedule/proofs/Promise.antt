@@ -8,7 +8,7 @@ use Rattle.rules.specs.Limits.{storeLength}
 use Rattle.rules.specs.Tally.{bitOf}
 use Rattle.rules.specs.Layout.{processAt, depthAt}
 use Rattle.rules.specs.Store.{sentIn}
-use Rattle.rules.specs.Answers.{Said, isRefused, total, allSent}
+use Rattle.rules.specs.Answers.{Said, isRefused, total}
 use Rattle.rules.specs.Depths.{depthAfter}
 use Rattle.rules.specs.Step.{Course, Idles, Refuses, Takes, settled, stepped, course}
 use Rattle.rules.specs.Run.{State, next, after, answers}
@@ -56,17 +56,14 @@ section-steps : (a : State) (ss : List Step) → countsOf a ss .steps ≡ length
 unfolding countsOf countsIn
 section-steps a ss = answers-length a ss
 
-section-sent : (a : State) (ss : List Step) → countsOf a ss .sent ≡ allSent (answers a ss)
-unfolding countsOf countsIn
-section-sent a ss = refl
-
 -- ---- two sections
 
--- *sent* of the answers to both
-sent-more : (a : State) (ss ts : List Step) → allSent (answers a (ss ++ ts)) ≡ allSent (answers a ss) + allSent (answers (after a ss) ts)
+-- what the answers to both add up to
+total-more : (f : Said → ℕ) (a : State) (ss ts : List Step)
+    → total f (answers a (ss ++ ts)) ≡ total f (answers a ss) + total f (answers (after a ss) ts)
 unfolding after answers total
-sent-more a [] ts = omega arith
-sent-more a (s ∷ ss) ts = let rest = sent-more (next a s) ss ts in omega arith
+total-more f a [] ts = omega arith
+total-more f a (s ∷ ss) ts = let rest = total-more f (next a s) ss ts in omega arith
 
 -- ---- a schedule that fits starts a run
 
@@ -99,14 +96,15 @@ module _ (h : Schedule) (l d : List ℕ) (b : Begins (h .values) l d) where
   end-is : at (h .values) l d steps ≡ atEnd h l d
   end-is = deep-more (begins h l d) (h .warmup) (h .measured)
 
-  sent-both : sentIn (atEnd h l d .store) storeLength ≡ 1 + (countsOf (begins h l d) (h .warmup) .sent + countsOf (between h l d) (h .measured) .sent)
+  sent-both : 1 + (countsOf (begins h l d) (h .warmup) .sent + countsOf (between h l d) (h .measured) .sent)
+      ≡ sentIn (atEnd h l d .store) storeLength + (countsOf (begins h l d) (h .warmup) .again + countsOf (between h l d) (h .measured) .again)
+  unfolding countsOf countsIn
   sent-both =
       let all = safety .counts (h .values) l d steps b in
       let same : sentIn (at (h .values) l d steps .store) storeLength ≡ sentIn (atEnd h l d .store) storeLength =
       ap (λ (a : State). sentIn (a .store) storeLength) end-is in
-      let parts = sent-more (begins h l d) (h .warmup) (h .measured) in
-      let one = section-sent (begins h l d) (h .warmup) in
-      let two = section-sent (between h l d) (h .measured) in
+      let sent = total-more (λ x. x .sent) (begins h l d) (h .warmup) (h .measured) in
+      let again = total-more (λ x. x .again) (begins h l d) (h .warmup) (h .measured) in
       omega arith
 
   decided-both : deciders (atEnd h l d .group) ≡ countsOf (begins h l d) (h .warmup) .decided + countsOf (between h l d) (h .measured) .decided

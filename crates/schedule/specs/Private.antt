@@ -182,6 +182,7 @@ counted c a =
       idle = c .idle + bitOf (a .idle);
       refused = c .refused + bitOf (isRefused a);
       sent = c .sent + a .sent;
+      again = c .again + a .again;
       decided = c .decided + bitOf (a .decided);
     }
 
@@ -191,7 +192,7 @@ countedAll c (a ∷ as′) = countedAll (counted c a) as′
 
 -- of k steps that are all refused
 unfoldable pub refusedAll : ℕ → Counts
-refusedAll k = record { steps = k; applied = 0; idle = 0; refused = k; sent = 0; decided = 0 }
+refusedAll k = record { steps = k; applied = 0; idle = 0; refused = k; sent = 0; again = 0; decided = 0 }
 
 -- counts that have room for one more step
 pub record Room (c : Counts) : Type 0 where
@@ -200,6 +201,7 @@ pub record Room (c : Counts) : Type 0 where
   pub idle : c .idle ≤ mostSteps
   pub refused : c .refused ≤ mostSteps
   pub sent : c .sent ≤ mostSteps * 256
+  pub again : c .again ≤ mostSteps * 256
   pub decided : c .decided ≤ mostSteps
 
 -- a group that is sound over stores that are long, and some steps to take

@@ -29,8 +29,8 @@ pub record Promise (h : Schedule) (l d : List ℕ) (o : RanOver) : Type 0 where
   pub measured : o .ran .measured .steps ≡ length (h .measured)
   pub warmup-adds : AddsUp (o .ran .warmup)
   pub measured-adds : AddsUp (o .ran .measured)
-  -- "1 + both sent counts equals the sent entries in the store at the end"
-  pub sent : sentIn (o .store) storeLength ≡ 1 + (o .ran .warmup .sent + o .ran .measured .sent)
+  -- "1 + all sent − all again now equals the sent entries in the store."
+  pub sent : 1 + (o .ran .warmup .sent + o .ran .measured .sent) ≡ sentIn (o .store) storeLength + (o .ran .warmup .again + o .ran .measured .again)
   -- both *decided* together are the processes that hold a decision
   pub decided : deciders (o .ran .group) ≡ o .ran .warmup .decided + o .ran .measured .decided
   -- no two processes hold different decisions, and each is some process's first value

@@ -5,13 +5,14 @@ ghost use Rattle.schedule.specs.Counts as counts;
 ghost use Rattle.schedule.specs.Private as private;
 use rules::step::Answer;
 
-// How many steps a section has; how many of them were applied, idle and refused; how many entries turned from 0 to sent; how many processes decided.
+// How many steps a section has; how many of them were applied, idle and refused; how many messages were handed over, and how many of them again; how many processes decided.
 pub struct Counts {
     pub steps: u32,
     pub applied: u32,
     pub idle: u32,
     pub refused: u32,
     pub sent: u32,
+    pub again: u32,
     pub decided: u32,
 }
 
@@ -25,6 +26,7 @@ impl Counts {
             idle: 0,
             refused: 0,
             sent: 0,
+            again: 0,
             decided: 0,
         }
     }
@@ -39,6 +41,7 @@ impl Counts {
             idle: 0,
             refused: steps,
             sent: 0,
+            again: 0,
             decided: 0,
         }
     }
@@ -55,6 +58,7 @@ impl Counts {
                 idle: self.idle + 1,
                 refused: self.refused,
                 sent: self.sent,
+                again: self.again,
                 decided: self.decided,
             },
             Answer::Refused(_) => Counts {
@@ -63,14 +67,20 @@ impl Counts {
                 idle: self.idle,
                 refused: self.refused + 1,
                 sent: self.sent,
+                again: self.again,
                 decided: self.decided,
             },
-            Answer::Applied { sent, decided } => Counts {
+            Answer::Applied {
+                sent,
+                again,
+                decided,
+            } => Counts {
                 steps: self.steps + 1,
                 applied: self.applied + 1,
                 idle: self.idle,
                 refused: self.refused,
                 sent: self.sent + sent as u32,
+                again: self.again + again as u32,
                 decided: self.decided + decided as u32,
             },
         }

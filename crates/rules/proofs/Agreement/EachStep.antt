@@ -61,11 +61,11 @@ not-two k (inl e) f = e
 not-two k (inr e) f = absurd (eqb-false k 2 f e)
 
 -- so of an E, and of an F
-below-E : (p : Process) (j r : ℕ) → idleE p j r ≡ false → p .round ≤ r
+pub below-E : (p : Process) (j r : ℕ) → idleE p j r ≡ false → p .round ≤ r
 unfolding idleE
 below-E p j r e = not-below p r (inPhase p r 2 || (inPhase p r 1 && holds (p .estimates) j)) e
 
-below-F : (p : Process) (j r : ℕ) → idleF p j r ≡ false → p .round ≤ r
+pub below-F : (p : Process) (j r : ℕ) → idleF p j r ≡ false → p .round ≤ r
 unfolding idleF
 below-F p j r e = not-below p r (inPhase p r 2 && holds (p .estimates) j) e
 
@@ -79,7 +79,7 @@ first-phase-E p j r f e z =
     not-two (p .phase) f (ap (λ (t : Bool). t && eqb (p .phase) 2) (sym same) ∙ both)
 
 -- so does an S
-first-phase-S : (p : Process) (j r : ℕ) → (p .phase ≡ 1) ⊎ (p .phase ≡ 2) → idleS p j r ≡ false → p .phase ≡ 1
+pub first-phase-S : (p : Process) (j r : ℕ) → (p .phase ≡ 1) ⊎ (p .phase ≡ 2) → idleS p j r ≡ false → p .phase ≡ 1
 unfolding idleS
 first-phase-S p j r f e =
     let b = not (eqb r (p .round)) || eqb (p .phase) 2 in

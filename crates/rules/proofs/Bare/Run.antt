@@ -7,7 +7,8 @@ use Rattle.rules.specs.declared.step.Step.{Step}
 use Rattle.rules.specs.Answers.{Said}
 use Rattle.rules.specs.Start.{firstMessage}
 use Rattle.rules.specs.Layout.{forgetting}
-use Rattle.rules.specs.Run.{Handed, handed, handedByCourse, State as Whole}
+use Rattle.rules.specs.Store.{Handed, handed}
+use Rattle.rules.specs.Run.{handedByCourse, State as Whole}
 use Rattle.rules.proofs.Bare.Step.{Outcome, started, course, stepped}
 
 -- the group and the store between two steps

@@ -19,7 +19,7 @@ use Rattle.rules.specs.Kinds.{takerOf, numbersOf, delivers, slotOf, isCu
 use Rattle.rules.specs.Idle.{idle}
 use Rattle.rules.specs.Depths.{deliveredDepth, depthAfter}
 use Rattle.rules.specs.Refusals.{row, every, short, strange, late, down, unsent, misnamed, impossible, recoversPast, entersPast, damaged, tooDeep, refusal}
-use Rattle.rules.specs.Step.{Course, Idles, Refuses, Takes, idles, orIdle, unlessRefused, sentBy, decidesNow, course, settled, stepped, Ready}
+use Rattle.rules.specs.Step.{Course, Idles, Refuses, Takes, idles, orIdle, unlessRefused, sentBy, againBy, decidesNow, course, settled, stepped, Ready}
 use Rattle.rules.specs.Run.{State, next}
 use Rattle.rules.specs.Safety.{WithinLimits}
 use Rattle.rules.specs.Private.{numberRows}
@@ -123,7 +123,7 @@ settled-forgets g l d k (Takes i x) s f =
       group = forget-deep (withProcess g i (x .process)) i k ∙ forget-with g i (x .process) s (f .low) (f .small);
       store = refl;
       says =
-          ap (λ (p : Process). saysApplied (sentBy i x l) (decidesNow p (x .process)))
+          ap (λ (p : Process). saysApplied (sentBy i x) (againBy i x l) (decidesNow p (x .process)))
           (sym (process-forgets g i s (f .small)));
     }
 

@@ -16,7 +16,7 @@ use Rattle.rules.specs.Layout.{processAt}
 use Rattle.rules.specs.Records.{stored, blank}
 use Rattle.rules.specs.Store.{kindE, kindS, kindF, proposerOf, sentIn}
 use Rattle.rules.specs.Kinds.{takerOf}
-use Rattle.rules.specs.Answers.{allSent}
+use Rattle.rules.specs.Answers.{allSent, allAgain}
 use Rattle.rules.specs.Refusals.{isRecover}
 use Rattle.rules.specs.Safety.{Of, Holds, FirstValue, cut, back, Among, Comes, Heard, Majority, estimatesWith}
 use Rattle.rules.proofs.Bare.Step.{damaged, refusal, stepped}
@@ -97,18 +97,13 @@ RefusalSix = EveryRun λ vs l ss. (s : Step) → Comes (at vs l ss .group) s
 
 -- ---- 6: the store
 
--- an entry once sent stays sent
-abbrev pub SentStays : Type 0
-SentStays = EveryRun λ vs l ss. (ts : List Step) (k : ℕ) → k < storeLength
-    → getD (at vs l ss .store) k 0 ≢ 0 → getD (after (at vs l ss) ts .store) k 0 ≢ 0
-
 -- entries past 3,088 are as they were before the start
 abbrev pub PastKept : Type 0
 PastKept = EveryRun λ vs l ss. (k : ℕ) → storeLength ≤ k → getD (at vs l ss .store) k 0 ≡ getD l k 0
 
--- the sent entries number 1 and the sum of *sent* over all steps
+-- 1 and all *sent* are the sent entries and all *again*
 abbrev pub SentCounts : Type 0
-SentCounts = EveryRun λ vs l ss. sentIn (at vs l ss .store) storeLength ≡ 1 + allSent (answers (startState vs l) ss)
+SentCounts = EveryRun λ vs l ss. 1 + allSent (answers (startState vs l) ss) ≡ sentIn (at vs l ss .store) storeLength + allAgain (answers (startState vs l) ss)
 
 -- records above n are as start left them
 abbrev pub AboveKept : Type 0

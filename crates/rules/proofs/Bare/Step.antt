@@ -10,7 +10,7 @@ use Rattle.rules.specs.Layout.{processAt, withProcess, blankGroup}
 use Rattle.rules.specs.Answers.{Said, saysApplied, saysIdle, saysRefused}
 use Rattle.rules.specs.Refusals.{row, allOf, short, miscounted, whole, strange, late, down, unsent, misnamed, impossible, recoversPast, entersPast}
 use Rattle.rules.specs.Start.{startedTo, opened}
-use Rattle.rules.specs.Step.{Course, Idles, Refuses, Takes, unlessRefused, handOvers, sentBy, decidesNow}
+use Rattle.rules.specs.Step.{Course, Idles, Refuses, Takes, unlessRefused, handOvers, sentBy, againBy, decidesNow}
 
 -- ---- refusals: the rows of depths as truth values
 
@@ -55,7 +55,7 @@ abbrev pub refused : Group → List ℕ → ℕ → Outcome
 refused g l k = outcome g l (saysRefused k)
 
 unfoldable pub begun : List ℕ → List ℕ → Outcome
-begun vs l = outcome (startedTo vs (length vs)) (opened (getD vs 0 0) l) (saysApplied 1 false)
+begun vs l = outcome (startedTo vs (length vs)) (opened (getD vs 0 0) l) (saysApplied 1 0 false)
 
 unfoldable pub unlessRefusedStart : ℕ → List ℕ → List ℕ → Outcome
 unlessRefusedStart zero vs l = begun vs l
@@ -71,7 +71,7 @@ unfoldable pub settled : Group → List ℕ → Course → Outcome
 settled g l Idles = outcome g l saysIdle
 settled g l (Refuses k) = refused g l k
 settled g l (Takes i x) =
-    outcome (withProcess g i (x .process)) (handOvers i x l) (saysApplied (sentBy i x l) (decidesNow (processAt g i) (x .process)))
+    outcome (withProcess g i (x .process)) (handOvers i x l) (saysApplied (sentBy i x) (againBy i x l) (decidesNow (processAt g i) (x .process)))
 
 unfoldable pub stepped : Group → List ℕ → Step → Outcome
 stepped g l s = settled g l (course g l s)

@@ -19,14 +19,14 @@ use Rattle.rules.specs.Depths.{deliveredDepth, raises, raised, depthAfte
 use Rattle.rules.specs.Refusals.{row, short, miscounted, strange, refusal, startRefusal}
 use Rattle.rules.specs.Answers.{Said}
 use Rattle.rules.specs.Start.{startedTo, firstMessage, opened, openedDepths, unlessRefusedStart, started}
-use Rattle.rules.specs.Step.{Course, Idles, Refuses, Takes, handOvers, sentBy, course, settled, stepped}
+use Rattle.rules.specs.Step.{Course, Idles, Refuses, Takes, handOvers, course, settled, stepped}
 use Rattle.rules.specs.Run.{State, stateOf, startState, next, after, answers}
 use Rattle.rules.specs.Safety.{Begins, at, processDepth, messageDepth, says, SoundGroup, NeverDamaged, WithinLimits, DepthsChangeNothing, DepthsFit}
 use Rattle.rules.proofs.Bare.Run.{State as Bare, forgotten}
 use Rattle.rules.proofs.Bare.Step.{begun}
-use Rattle.rules.specs.Limits.{greatestSize, storeLength}
+use Rattle.rules.specs.Limits.{greatestSize, lastRound, storeLength}
 use Rattle.rules.specs.Layout.{withProcess, depthAt, withDepth, Sized}
-use Rattle.rules.specs.Store.{placeOf, handOver, turned, cleared, sentIn}
+use Rattle.rules.specs.Store.{placeOf, messageRound, entryFor, handOver, cleared, sentIn}
 use Rattle.rules.specs.Kinds.{takerOf, slotOf}
 use Rattle.rules.proofs.Bare.Step as base
 use Rattle.rules.specs.Private.{numberRows}
@@ -34,10 +34,10 @@ use Rattle.rules.proofs.Bare.Run as run
 use Rattle.rules.proofs.Bare.Statements as bare
 use Rattle.rules.proofs.Bare.Same.{limits-fine}
 use Rattle.rules.proofs.Bare.Same as same
-use Rattle.rules.proofs.Laws.Store.{place-lt, own, other, opened-sent, cleared-length, cleared-below, cleared-past}
+use Rattle.rules.proofs.Laws.Store.{IsMessage, place-lt, own, other, handOver-length, handOver-new, handOver-more, opened-sent, cleared-length, cleared-below, cleared-past}
 use Rattle.rules.proofs.Laws.Row.{among-in}
 use Rattle.rules.proofs.Laws.Group.{sized-with, sized-started, started-size}
-use Rattle.rules.proofs.Laws.Sound.{Whole, Sound, sound-facts, Fine, overs-sent}
+use Rattle.rules.proofs.Laws.Sound.{Whole, Sound, sound-facts, Named, Fine, named-entry}
 use Rattle.rules.proofs.Laws.Passing.{facts-deep, course-takes, dating, dated-length, dated-other}
 use Rattle.rules.proofs.Laws.Column.{depth-put, depth-kept, sized-deep, depth-with, process-forgets, forget-started, depth-started}
 use Rattle.rules.proofs.Laws.Course.{taker-low, place-low}
@@ -47,14 +47,19 @@ use Rattle.rules.proofs.Runs.Sound.{never-two-nor-eleven}
 -- ---- one message that is dated
 
 module _ (i : ℕ) (m : Message) (k : ℕ) (l d : List ℕ) where
-  -- it is at most what bounds the others, and what turned
-  dated-bound : (q b : ℕ) → placeOf i m < length d → getD d q 0 + 1 ≤ b → k ≤ b → getD (dated i m k l d) q 0 + 1 ≤ b + turned i m l
-  dated-bound q b lt old new =
-      dating (λ (e : List ℕ) (t : ℕ). getD e q 0 + 1 ≤ b + t) i m k l d (omega arith) (λ is z. go (ℕ-discrete q (placeOf i m)))
-    where
-      go : Dec (q ≡ placeOf i m) → getD (set d (placeOf i m) k) q 0 + 1 ≤ b + 1
-      go (yes e) = omega (arith, ap (λ (p : ℕ). getD (set d (placeOf i m) k) p 0) e, own d (placeOf i m) k lt)
-      go (no ne) = omega (arith, other d (placeOf i m) k q ne)
+  -- it is less than the number of sent entries, where the other depths were and its own is no more
+  module _ (hi : i ≤ greatestSize) (le : messageRound m ≤ lastRound) (long : storeLength ≤ length l) (ne : IsMessage m → entryFor i m ≢ 0) where
+    dated-bound : (q : ℕ) → storeLength ≤ length d → getD d q 0 + 1 ≤ sentIn l storeLength → k ≤ sentIn l storeLength
+        → getD (dated i m k l d) q 0 + 1 ≤ sentIn (handOver i m l) storeLength
+    dated-bound q room old new =
+        dating (λ (e : List ℕ). getD e q 0 + 1 ≤ sentIn (handOver i m l) storeLength) i m k l d (omega (arith, handOver-more i m l hi le long ne))
+        (λ is z. go (handOver-new i m l hi le long ne is z) (ℕ-discrete q (placeOf i m)))
+      where
+        go : sentIn (handOver i m l) storeLength ≡ sentIn l storeLength + 1 → Dec (q ≡ placeOf i m)
+            → getD (set d (placeOf i m) k) q 0 + 1 ≤ sentIn (handOver i m l) storeLength
+        go more (yes e) =
+            omega (arith, more, ap (λ (p : ℕ). getD (set d (placeOf i m) k) p 0) e, own d (placeOf i m) k (omega (arith, place-lt i m hi le)))
+        go more (no other-place) = omega (arith, more, other d (placeOf i m) k q other-place)
 
 -- ---- the count of sent entries is at most their number
 
@@ -138,7 +143,7 @@ module _ (vs : List ℕ) (a : State) (h : DeepBasic vs a) (s : Step) where
     processes : (i : ℕ) → 1 ≤ i → i ≤ a .group .n → depthAt (settled (a .group) (a .store) (a .depths) k c .group) i ≤ sentIn (settled (a .group) (a .store) (a .depths) k c .store) storeLength
 
   grown : (c : Course) (k : ℕ) → Fine (a .group .n) c → ((i : ℕ) (x : Next) → c ≡ Takes i x → k ≤ sentIn (a .store) storeLength) → Grown c k
-  unfolding settled datedBoth sentBy
+  unfolding settled datedBoth handOvers
   grown Idles k f le = record { sized = h .sized; deep-long = h .deep-long; messages = h .messages; processes = h .processes }
   grown (Refuses n) k f le = record { sized = h .sized; deep-long = h .deep-long; messages = h .messages; processes = h .processes }
   grown (Takes i x) k f most =
@@ -164,14 +169,24 @@ module _ (vs : List ℕ) (a : State) (h : DeepBasic vs a) (s : Step) where
       both-length : length (datedBoth i x k l (a .depths)) ≡ length (a .depths)
       both-length = dated-length i (x .second) k once dates ∙ dated-length i (x .first) k l (a .depths)
 
-      more : sentIn (handOvers i x l) storeLength ≡ sentIn l storeLength + sentBy i x l
-      more = overs-sent (a .group .n) i x l f (h .basic .long)
+      long : storeLength ≤ length once
+      long = omega (arith, handOver-length i (x .first) l, h .basic .long)
+
+      named : (m : Message) → Named (a .group .n) m → IsMessage m → entryFor i m ≢ 0
+      named m = named-entry (a .group .n) i m (f .low)
+
+      once-more : sentIn l storeLength ≤ sentIn once storeLength
+      once-more = handOver-more i (x .first) l (f .small) (f .first) (h .basic .long) (named (x .first) (f .first-named))
+
+      more : sentIn l storeLength ≤ sentIn (handOvers i x l) storeLength
+      more = omega (arith, once-more, handOver-more i (x .second) once (f .small) (f .second) long (named (x .second) (f .second-named)))
 
       bound : (q : ℕ) → q < storeLength → getD (datedBoth i x k l (a .depths)) q 0 + 1 ≤ sentIn (handOvers i x l) storeLength
       bound q lt =
-          let one = dated-bound i (x .first) k l (a .depths) q (sentIn l storeLength) (omega (arith, place-lt i (x .first) (f .small) (f .first), h .deep-long)) (h .messages q lt) le in
-          let two = dated-bound i (x .second) k once dates q (sentIn l storeLength + turned i (x .first) l) (omega (arith, place-lt i (x .second) (f .small) (f .second), dated-length i (x .first) k l (a .depths), h .deep-long)) one (omega (arith, le)) in
-          omega (arith, two, more)
+          dated-bound i (x .second) k once dates (f .small) (f .second) long (named (x .second) (f .second-named)) q
+          (omega (arith, dated-length i (x .first) k l (a .depths), h .deep-long))
+          (dated-bound i (x .first) k l (a .depths) (f .small) (f .first) (h .basic .long) (named (x .first) (f .first-named)) q (h .deep-long) (h .messages q lt) le)
+          (omega (arith, le, once-more))
 
       go : (j : ℕ) → 1 ≤ j → j ≤ a .group .n → Dec (j ≡ i) → depthAt (withDepth (withProcess (a .group) i (x .process)) i k) j ≤ sentIn (handOvers i x l) storeLength
       go j lo hi (yes e) =
@@ -238,7 +253,7 @@ not-refused-deep vs l d b =
 opened-below : (v : ℕ) (l d : List ℕ) → storeLength ≤ length d → (q : ℕ) → q < storeLength → getD (openedDepths v l d) q 0 ≡ 0
 unfolding openedDepths placeOf
 opened-below v l d long q lt =
-    dating (λ (e : List ℕ) (t : ℕ). getD e q 0 ≡ 0) 1 (firstMessage v) 0 (cleared storeLength l) (cleared storeLength d)
+    dating (λ (e : List ℕ). getD e q 0 ≡ 0) 1 (firstMessage v) 0 (cleared storeLength l) (cleared storeLength d)
     (cleared-below storeLength d q lt) (λ is z. go (ℕ-discrete q 0))
   where
     go : Dec (q ≡ 0) → getD (set (cleared storeLength d) 0 0) q 0 ≡ 0

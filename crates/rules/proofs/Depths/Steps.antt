@@ -18,11 +18,11 @@ use Rattle.rules.specs.declared.step.Step.the-variants.{DeliverE, Delive
 use Rattle.rules.specs.Depths.{deliveredDepth, raises, raised, depthAfter, datedIf, dated, datedBoth}
 use Rattle.rules.specs.Refusals.{refusal}
 use Rattle.rules.specs.Step.{Course, Idles, Refuses, Takes, idles, orIdle, unlessRefused, handOvers, course, settled, stepped}
-use Rattle.rules.specs.Run.{State, next, after, Handed, handed}
-use Rattle.rules.specs.Safety.{at, processDepth, messageDepth, says, Delivers, SentStays, senderOf, Link}
+use Rattle.rules.specs.Run.{State, next, after}
+use Rattle.rules.specs.Safety.{processDepth, messageDepth, says, Delivers, senderOf, Link}
 use Rattle.rules.specs.Limits.{greatestSize, lastRound, storeLength}
 use Rattle.rules.specs.Layout.{processAt, withProcess, depthAt, withDepth, forgetting}
-use Rattle.rules.specs.Store.{placeOf, messageRound, entryFor, handOver}
+use Rattle.rules.specs.Store.{placeOf, messageRound, entryFor, handOver, Handed, handed}
 use Rattle.rules.specs.Events.{onCrash, cutIf}
 use Rattle.rules.specs.Kinds.{takerOf, delivers, slotOf, isCut, eventOf}
 use Rattle.rules.specs.Idle.{idle}
@@ -33,7 +33,7 @@ use Rattle.rules.proofs.Laws.Passing.{DeepPassed, deep-passed, dating, 
 use Rattle.rules.proofs.Laws.Column.{depth-put, depth-kept, depth-with}
 use Rattle.rules.proofs.Runs.Cases.{never, handed-by}
 use Rattle.rules.proofs.Runs.Handing.{Addresses, place-delivered}
-use Rattle.rules.proofs.Depths.Basics.{DeepBasic, deep-fine, next-forgets, deep-throughout, deep-basic}
+use Rattle.rules.proofs.Depths.Basics.{DeepBasic, deep-fine, next-forgets, deep-throughout}
 use Rattle.rules.proofs.Runs.Entries.{step-stays}
 use Rattle.rules.proofs.Bare.Run.{State as Bare}
 use Rattle.rules.proofs.Bare.Run as run
@@ -138,7 +138,7 @@ module _ (i : ℕ) (m : Message) (k : ℕ) (l d : List ℕ) where
   -- where its entry is sent, the depth at a place stays
   dated-sent : (q : ℕ) → getD l q 0 ≢ 0 → getD (dated i m k l d) q 0 ≡ getD d q 0
   dated-sent q ne =
-      dating (λ (e : List ℕ) (t : ℕ). getD e q 0 ≡ getD d q 0) i m k l d refl
+      dating (λ (e : List ℕ). getD e q 0 ≡ getD d q 0) i m k l d refl
       (λ is z. other d (placeOf i m) k q (λ e. ne (ap (λ (p : ℕ). getD l p 0) e ∙ z)))
 
   -- where it turns from 0, the place is the message's, and gets the depth
@@ -273,6 +273,3 @@ pub sent-after : (vs : List ℕ) (a : State) (ts : List Step) → DeepBasic vs a
 sent-after vs a ts h q ne =
     deep-throughout vs (λ (c : State). (getD (c .store) q 0 ≢ 0) × (messageDepth c q ≡ messageDepth a q))
     (λ c s k p. (sent-next vs c k s q (p .0), message-kept vs c k s q (p .0) ∙ p .1)) a ts h (ne, refl)
-
-pub sent-stays : SentStays
-sent-stays vs l d ss b ts k lt ne = sent-after vs (at vs l d ss) ts (deep-basic vs l d ss b) k ne

@@ -5,34 +5,32 @@ use mathlib.Core.List.{List}
 use Prim.Native.Nat.{ℕ, zero, suc, _≤_, _<_}
 use native.Mathlib.Nat.{le-trans}
 use native.Mathlib.Omega.{arith}
-use lib.Dec.{eqb, ltb}
-use lib.ListN.{length, getD}
+use lib.Dec.{ltb}
+use lib.ListN.{length, length-append}
 use borrow.Author.Tests.{le-ltb}
 use Rattle.rules.specs.declared.group.Group.{Group}
 use Rattle.rules.specs.declared.process.Process.{Process}
 use Rattle.rules.specs.declared.process.Next.{Next}
-use Rattle.rules.specs.declared.process.Message.{Message}
-use Rattle.rules.specs.declared.process.Message.the-variants.{Nothing, E, S, F, Decision}
 use Rattle.rules.specs.declared.step.Step.{Step}
 use Rattle.rules.specs.declared.step.Step.the-variants.{DeliverE, DeliverS, DeliverF, DeliverDecision, Suspect, Pause, Crash, Recover}
 use Rattle.rules.specs.declared.course.Address.the-variants.{Misses, At}
 use Rattle.rules.specs.Limits.{greatestSize, lastRound, tooMany, storeLength, among}
 use Rattle.rules.specs.Layout.{processAt, withProcess, withDepth}
-use Rattle.rules.specs.Store.{proposerOf, placeOf, turned}
+use Rattle.rules.specs.Store.{proposerOf, one}
 use Rattle.rules.specs.Depths.{deliveredDepth, depthAfter, datedBoth}
 use Rattle.rules.specs.Refusals.{row, every, short, strange, late, isRecover, down, unsent, misnamed, maySuspect, impossible, recoversPast, entersPast, damaged, tooDeep}
 use Rattle.rules.specs.Refusals.{refusal}
 use Rattle.rules.specs.Answers.{saysApplied, saysIdle, saysRefused, outcome}
-use Rattle.rules.specs.Step.{Idles, Refuses, Takes, orIdle, unlessRefused, handOvers, sentBy, decidesNow, course, settled, stepped, Ready}
+use Rattle.rules.specs.Step.{Idles, Refuses, Takes, orIdle, unlessRefused, handedOf, handOvers, sentBy, againBy, decidesNow, course, settled, stepped, Ready}
 use Rattle.rules.specs.Events.{cutIf}
 use Rattle.rules.specs.Kinds.{takerOf, numbersOf, roundOf, delivers, slotOf, isCut, entryIn, eventOf}
 use Rattle.rules.specs.Idle.{idle}
+use Rattle.rules.specs.declared.store.Traffic.{Traffic}
 use Rattle.rules.specs.Private.{numberRows, unlessMissed, addressOf, heldRows, unlessPast, orPast, orImpossible, orUp, lastCourse, unlessHeld, heldCourse, Numbered, Handable, HandsOverBoth}
 use Rattle.rules.proofs.Laws.Row.{orElse, number-else, held-else, delivered-zero, owned-zero, held-zero}
 use Rattle.rules.proofs.Laws.Step.{up-yes, up-many, up-no}
 use Rattle.rules.proofs.Laws.Sound.{sound-facts}
 use Rattle.rules.proofs.Laws.Passing.{deep-sound, course-takes}
-use Rattle.rules.specs.Tally.{bitOf}
 
 -- the rows that are left to every step: 7, 13 and 8
 abbrev rest : Group → List ℕ → Step → ℕ
@@ -271,29 +269,16 @@ held-names n up e k s h z d =
 
 -- ---- the outcome of a course
 
-unsent-small : (b : Bool) → bitOf b ≤ 1
-unsent-small true = omega arith
-unsent-small false = omega arith
-
--- at most one entry turns from 0 by a handing over
-pub turned-small : (i : ℕ) (m : Message) (l : List ℕ) → turned i m l ≤ 1
-unfolding turned
-turned-small i Nothing l = omega arith
-turned-small i (E r q v) l = unsent-small (eqb (getD l (placeOf i (E r q v)) 0) 0)
-turned-small i (S r) l = unsent-small (eqb (getD l (placeOf i (S r)) 0) 0)
-turned-small i (F r q v) l = unsent-small (eqb (getD l (placeOf i (F r q v)) 0) 0)
-turned-small i (Decision v) l = unsent-small (eqb (getD l (placeOf i (Decision v)) 0) 0)
-
 -- the record and the depth put back, the messages handed over and what is counted make the outcome of a step that is taken
-pub finishes : (g : Group) (i k : ℕ) (x : Next) (l d : List ℕ) {depth : ℕ} {after : Group} {last deeper : List ℕ} {sent : ℕ} {t : Bool}
+pub finishes : (g : Group) (i k : ℕ) (x : Next) (l d : List ℕ) {depth : ℕ} {after : Group} {last deeper : List ℕ} {traffic : Traffic} {t : Bool}
     → depth ≡ k
     → after ≡ withDepth (withProcess g i (x .process)) i depth
-    → HandsOverBoth i (x .first) (x .second) depth l d last deeper sent
+    → HandsOverBoth i (x .first) (x .second) depth l d last deeper traffic
     → t ≡ decidesNow (processAt g i) (x .process)
-    → outcome after last deeper (saysApplied sent t) ≡ settled g l d k (Takes i x)
-unfolding settled datedBoth handOvers sentBy
+    → outcome after last deeper (saysApplied (traffic .sent) (traffic .again) t) ≡ settled g l d k (Takes i x)
+unfolding settled datedBoth handedOf handOvers sentBy againBy
 finishes g i k x l d e hg h ht =
-    (λ t. outcome (hg t) (h .store t) (h .depths t) (saysApplied (h .turns t) (ht t))) ∙ ap (λ (j : ℕ). settled g l d j (Takes i x)) e
+    (λ t. outcome (hg t) (h .store t) (h .depths t) (saysApplied ((h .sent ∙ sym (length-append (one i (x .first)) (one i (x .second)))) t) (h .again t) (ht t))) ∙ ap (λ (j : ℕ). settled g l d j (Takes i x)) e
 
 module _ (g : Group) (l d : List ℕ) (s : Step) where
   pub idle-outcome : course g l d s ≡ Idles → outcome g l d saysIdle ≡ stepped g l d s

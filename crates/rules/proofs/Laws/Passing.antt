@@ -18,8 +18,7 @@ use Rattle.rules.specs.Refusals.{allOf, short, whole, damaged, tooDeep, 
 use Rattle.rules.specs.Step.{Course, Refuses, Takes, idles, orIdle, unlessRefused, course}
 use Rattle.rules.specs.Limits.{greatestSize, deepestProcess, among}
 use Rattle.rules.specs.Layout.{processAt, depthAt}
-use Rattle.rules.specs.Store.{placeOf, turned}
-use Rattle.rules.specs.Tally.{bitOf}
+use Rattle.rules.specs.Store.{placeOf}
 use Rattle.rules.specs.Kinds.{takerOf, isCut, eventOf}
 use Rattle.rules.specs.Idle.{idle}
 use Rattle.rules.proofs.Bare.Step as base
@@ -99,19 +98,19 @@ course-takes g l d s {i} {x} e = go (refusal g l d s) refl
 
 -- ---- one message that is dated
 
--- what is true of the depths as they are, with nothing sent, and of those with the depth written where the entry was 0, is true after the handing over
-pub dating : (P : List ℕ → ℕ → Type 0) (i : ℕ) (m : Message) (k : ℕ) (l d : List ℕ) → P d 0
-    → (IsMessage m → getD l (placeOf i m) 0 ≡ 0 → P (set d (placeOf i m) k) 1)
-    → P (dated i m k l d) (turned i m l)
-unfolding dated turned datedIf
+-- what is true of the depths as they are, and of those with the depth written where the entry was 0, is true after the handing over
+pub dating : (P : List ℕ → Type 0) (i : ℕ) (m : Message) (k : ℕ) (l d : List ℕ) → P d
+    → (IsMessage m → getD l (placeOf i m) 0 ≡ 0 → P (set d (placeOf i m) k))
+    → P (dated i m k l d)
+unfolding dated datedIf
 dating P i m k l d old new = go m new
   where
-    at-place : (m : Message) (b : Bool) → eqb (getD l (placeOf i m) 0) 0 ≡ b → (getD l (placeOf i m) 0 ≡ 0 → P (set d (placeOf i m) k) 1)
-        → P (datedIf b (placeOf i m) k d) (bitOf b)
+    at-place : (m : Message) (b : Bool) → eqb (getD l (placeOf i m) 0) 0 ≡ b → (getD l (placeOf i m) 0 ≡ 0 → P (set d (placeOf i m) k))
+        → P (datedIf b (placeOf i m) k d)
     at-place m true e new = new (eqb-true (getD l (placeOf i m) 0) 0 e)
     at-place m false e new = old
 
-    go : (m : Message) → (IsMessage m → getD l (placeOf i m) 0 ≡ 0 → P (set d (placeOf i m) k) 1) → P (dated i m k l d) (turned i m l)
+    go : (m : Message) → (IsMessage m → getD l (placeOf i m) 0 ≡ 0 → P (set d (placeOf i m) k)) → P (dated i m k l d)
     go Nothing new = old
     go (E r q v) new = at-place (E r q v) _ refl (new tt)
     go (S r) new = at-place (S r) _ refl (new tt)
@@ -120,8 +119,8 @@ dating P i m k l d old new = go m new
 
 module _ (i : ℕ) (m : Message) (k : ℕ) (l d : List ℕ) where
   pub dated-length : length (dated i m k l d) ≡ length d
-  dated-length = dating (λ (e : List ℕ) (t : ℕ). length e ≡ length d) i m k l d refl (λ is z. length-set d (placeOf i m) k)
+  dated-length = dating (λ (e : List ℕ). length e ≡ length d) i m k l d refl (λ is z. length-set d (placeOf i m) k)
 
   -- at every other place, and where the entry was sent, the depth stays
   pub dated-other : (q : ℕ) → q ≢ placeOf i m → getD (dated i m k l d) q 0 ≡ getD d q 0
-  dated-other q ne = dating (λ (e : List ℕ) (t : ℕ). getD e q 0 ≡ getD d q 0) i m k l d refl (λ is z. other d (placeOf i m) k q ne)
+  dated-other q ne = dating (λ (e : List ℕ). getD e q 0 ≡ getD d q 0) i m k l d refl (λ is z. other d (placeOf i m) k q ne)

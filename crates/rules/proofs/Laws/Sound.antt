@@ -7,7 +7,7 @@ use Prim.Native.Nat.{ℕ, zero, suc, _+_, _-_, _^_, _≤_, _<_, zero-le}
 use native.Mathlib.Decide.{ℕ-discrete}
 use native.Mathlib.Omega.{arith}
 use lib.Dec.{eqb, leb, ltb}
-use lib.ListN.{length, getD}
+use lib.ListN.{length, getD, length-append}
 use lib.Pow.{pow-pos}
 use borrow.Author.Tests.{leb-true, le-leb, ltb-false, eqb-true, not-false}
 use Rattle.rules.specs.declared.group.Group.{Group}
@@ -19,12 +19,12 @@ use Rattle.rules.specs.declared.step.Step.{Step}
 use Rattle.rules.specs.declared.step.Step.the-variants.{DeliverE, DeliverS, DeliverF, DeliverDecision, Suspect, Pause, Crash, Recover}
 use Rattle.rules.specs.Refusals.{row, allOf, every, short, whole, strange, late, down, unsent, misnamed, impossible, recoversPast, entersPast, miscounted}
 use Rattle.rules.specs.Start.{fresh, startedTo}
-use Rattle.rules.specs.Step.{Course, Idles, Refuses, Takes, idles, orIdle, unlessRefused, handOvers, sentBy}
+use Rattle.rules.specs.Step.{Course, Idles, Refuses, Takes, idles, orIdle, unlessRefused, handedOf, handOvers, sentBy, againBy}
 use Rattle.rules.proofs.Bare.Step.{Outcome, refused, damaged, refusalBy, refusal, startRefusalBy, startRefusal, course, settled, stepped, unlessRefusedStart, begun, started}
 use Rattle.rules.specs.Limits.{greatestSize, lastRound, storeLength, coordinator, among}
 use Rattle.rules.specs.Tally.{meets, within}
 use Rattle.rules.specs.Layout.{processAt, withProcess, Sized, blankGroup}
-use Rattle.rules.specs.Store.{proposerOf, valueOf, messageRound, entryFor, handOver, sentIn}
+use Rattle.rules.specs.Store.{proposerOf, valueOf, messageRound, entryFor, handOver, one, sentIn}
 use Rattle.rules.specs.Events.{takes, enters, joinsEstimates, joinsSuspicions, decides, secondPhase, marks, paused, crashed, recovered, quiet, changed, jumpsIf, jumps, relaysIf, relays, decidesIf, decidesAt, goesToPhase2, goesToPhase2If, toPhase2, adoptsIf, adopts, opensIf, opens, entersNextIf, entersNextAt, onE, onS, onF, onDecision, onSuspect, onPause, onCrash, onRecover, cutIf}
 use Rattle.rules.specs.Kinds.{takerOf, numbersOf, roundOf, delivers, isCut, entryIn, eventOf}
 use Rattle.rules.specs.Idle.{idle}
@@ -547,7 +547,7 @@ module _ (g : Group) (l : List ℕ) (s : Step) (h : Passed g l s) where
         second-named = good .second-named;
       }
 
-  taker-whole : Whole (g .n) (processAt g (takerOf s))
+  pub taker-whole : Whole (g .n) (processAt g (takerOf s))
   taker-whole = let to = taker-in g s (h .known) in sound-facts g (h .sound) .each (takerOf s) (to .0) (to .1)
 
   pub passed-fine : (t cut : Bool) → idle g s ≡ t → Fine (g .n) (orIdle t cut (takerOf s) (processAt g (takerOf s)) (eventOf g l s))
@@ -578,14 +578,14 @@ refusal-keeps g l s = go (refusal g l s)
     go zero ne = absurd (ne refl)
     go (suc k) ne = refl
 
--- what is true of the group and store as they were, with nothing sent, and of those that a process leaves, is true after every step
-pub step-by : (P : Group → List ℕ → ℕ → Type 0) (g : Group) (l : List ℕ) (s : Step) → P g l 0
-    → ((i : ℕ) (x : Next) → Taking (g .n) i x → P (withProcess g i (x .process)) (handOvers i x l) (sentBy i x l))
-    → P (stepped g l s .group) (stepped g l s .store) (stepped g l s .says .sent)
+-- what is true of the group and store as they were, and of those that a process leaves, is true after every step
+pub step-by : (P : Group → List ℕ → Type 0) (g : Group) (l : List ℕ) (s : Step) → P g l
+    → ((i : ℕ) (x : Next) → Taking (g .n) i x → P (withProcess g i (x .process)) (handOvers i x l))
+    → P (stepped g l s .group) (stepped g l s .store)
 unfolding stepped settled
 step-by P g l s a b = go (course g l s) (course-fine g l s)
   where
-    go : (c : Course) → Fine (g .n) c → P (settled g l c .group) (settled g l c .store) (settled g l c .says .sent)
+    go : (c : Course) → Fine (g .n) c → P (settled g l c .group) (settled g l c .store)
     go Idles f = a
     go (Refuses k) f = a
     go (Takes i x) f = b i x f
@@ -612,7 +612,7 @@ sound-with g i p sized sound lo hi h = record { low = sound .low; high = sound .
     go j a b (no ne) =
         subst (λ (q : Process). Whole (g .n) q) (sym (process-kept g i j p lo (omega arith) a (omega arith) ne)) (sound .each j a b)
 
--- what a process hands over: the length stays, entries past the store stay, and what turned is what more is sent
+-- what a process hands over: the length stays, entries past the store stay, and what is handed over is what more is sent and what is repeated
 module _ (n i : ℕ) (x : Next) (l : List ℕ) where
   pub overs-length : length (handOvers i x l) ≡ length l
   unfolding handOvers
@@ -625,29 +625,29 @@ module _ (n i : ℕ) (x : Next) (l : List ℕ) where
         handOver-past i (x .second) (handOver i (x .first) l) (h .small) (h .second) k le
         ∙ handOver-past i (x .first) l (h .small) (h .first) k le
 
-    pub overs-sent : storeLength ≤ length l → sentIn (handOvers i x l) storeLength ≡ sentIn l storeLength + sentBy i x l
-    unfolding handOvers sentBy
+    pub overs-sent : storeLength ≤ length l → sentIn (handOvers i x l) storeLength + againBy i x l ≡ sentIn l storeLength + sentBy i x
+    unfolding handOvers handedOf sentBy againBy
     overs-sent long =
         let m = handOver i (x .first) l in
-        let one = handOver-sent i (x .first) l (h .small) (h .first) long (named-entry n i (x .first) (h .low) (h .first-named)) in
+        let first = handOver-sent i (x .first) l (h .small) (h .first) long (named-entry n i (x .first) (h .low) (h .first-named)) in
         let room : storeLength ≤ length m = omega (arith, handOver-length i (x .first) l) in
         let two = handOver-sent i (x .second) m (h .small) (h .second) room (named-entry n i (x .second) (h .low) (h .second-named)) in
-        omega arith
+        omega (arith, length-append (one i (x .first)) (one i (x .second)))
 
 module _ (g : Group) (l : List ℕ) (s : Step) where
   -- the group keeps its size and its columns
   pub step-size : stepped g l s .group .n ≡ g .n
   step-size =
-      step-by (λ (g' : Group) (l' : List ℕ) (k : ℕ). g' .n ≡ g .n) g l s refl (λ i x h. with-size g i (x .process))
+      step-by (λ (g' : Group) (l' : List ℕ). g' .n ≡ g .n) g l s refl (λ i x h. with-size g i (x .process))
 
   pub sized-step : Sized g → Sized (stepped g l s .group)
   sized-step sized =
-      step-by (λ (g' : Group) (l' : List ℕ) (k : ℕ). Sized g') g l s sized (λ i x h. sized-with g i (x .process) sized)
+      step-by (λ (g' : Group) (l' : List ℕ). Sized g') g l s sized (λ i x h. sized-with g i (x .process) sized)
 
   -- a sound group stays sound
   pub sound-step : Sized g → damaged g ≡ false → damaged (stepped g l s .group) ≡ false
   sound-step sized e =
-      step-by (λ (g' : Group) (l' : List ℕ) (k : ℕ). damaged g' ≡ false) g l s e
+      step-by (λ (g' : Group) (l' : List ℕ). damaged g' ≡ false) g l s e
       (λ i x h.
       facts-sound (withProcess g i (x .process))
       (sound-with g i (x .process) sized (sound-facts g e) (h .low) (h .high) (h .process)))
@@ -655,23 +655,28 @@ module _ (g : Group) (l : List ℕ) (s : Step) where
   -- records above n stay
   pub step-above : (j : ℕ) → g .n < j → j ≤ greatestSize → processAt (stepped g l s .group) j ≡ processAt g j
   step-above j a b =
-      step-by (λ (g' : Group) (l' : List ℕ) (k : ℕ). processAt g' j ≡ processAt g j) g l s refl
+      step-by (λ (g' : Group) (l' : List ℕ). processAt g' j ≡ processAt g j) g l s refl
       (λ i x h. process-kept g i j (x .process) (h .low) (h .small) (omega arith) b (omega arith))
 
   -- the store keeps its length, and all that stands past it
   pub step-length : length (stepped g l s .store) ≡ length l
   step-length =
-      step-by (λ (g' : Group) (l' : List ℕ) (k : ℕ). length l' ≡ length l) g l s refl (λ i x h. overs-length (g .n) i x l)
+      step-by (λ (g' : Group) (l' : List ℕ). length l' ≡ length l) g l s refl (λ i x h. overs-length (g .n) i x l)
 
   pub step-past : (k : ℕ) → storeLength ≤ k → getD (stepped g l s .store) k 0 ≡ getD l k 0
   step-past k le =
-      step-by (λ (g' : Group) (l' : List ℕ) (t : ℕ). getD l' k 0 ≡ getD l k 0) g l s refl (λ i x h. overs-past (g .n) i x l h k le)
+      step-by (λ (g' : Group) (l' : List ℕ). getD l' k 0 ≡ getD l k 0) g l s refl (λ i x h. overs-past (g .n) i x l h k le)
 
-  -- *sent* is what more is sent
-  pub step-sent : storeLength ≤ length l → sentIn (stepped g l s .store) storeLength ≡ sentIn l storeLength + stepped g l s .says .sent
-  step-sent long =
-      step-by (λ (g' : Group) (l' : List ℕ) (k : ℕ). sentIn l' storeLength ≡ sentIn l storeLength + k) g l s (omega arith)
-      (λ i x h. overs-sent (g .n) i x l h long)
+  -- *sent* is what more is sent, and *again*
+  pub step-sent : storeLength ≤ length l
+      → sentIn (stepped g l s .store) storeLength + stepped g l s .says .again ≡ sentIn l storeLength + stepped g l s .says .sent
+  unfolding stepped settled
+  step-sent long = go (course g l s) (course-fine g l s)
+    where
+      go : (c : Course) → Fine (g .n) c → sentIn (settled g l c .store) storeLength + settled g l c .says .again ≡ sentIn l storeLength + settled g l c .says .sent
+      go Idles f = omega arith
+      go (Refuses k) f = omega arith
+      go (Takes i x) f = overs-sent (g .n) i x l f long
 
 -- ---- a start
 

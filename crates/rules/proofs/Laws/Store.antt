@@ -4,7 +4,6 @@ use mathlib.Core.List.{List, [], _∷_, _++_}
 use mathlib.Core.Logic.{_≢_}
 use Prim.Native.Nat.{ℕ, zero, suc, _+_, _-_, _^_, _≤_, _<_}
 use native.Mathlib.Omega.{arith}
-use lib.Dec.{eqb, eqb·suc-zero}
 use lib.ListN.{length, getD, set, drop, replicate, length-set, length-append, length-replicate, length-drop, getD-replicate, List·getD-append}
 use lib.Seq.{getD-set-same, getD-set-other, getD-append-add, getD-drop}
 use borrow.Author.Fill.{fill-none, fill-more}
@@ -12,8 +11,7 @@ use Rattle.rules.specs.declared.process.Message.{Message}
 use Rattle.rules.specs.declared.process.Message.the-variants.{Nothing, E, S, F, Decision}
 use Rattle.rules.specs.Limits.{greatestSize, lastRound, storeLength}
 use Rattle.rules.specs.Start.{firstMessage, opened}
-use Rattle.rules.specs.Store.{slot, decisionSlot, entryOf, proposerOf, valueOf, placeOf, messageRound, entryFor, handOver, turned, cleared, sentBit, sentIn}
-use Rattle.rules.specs.Tally.{bitOf}
+use Rattle.rules.specs.Store.{slot, decisionSlot, entryOf, proposerOf, valueOf, placeOf, messageRound, entryFor, handOver, one, sentBit, repeats, cleared, sentIn}
 
 -- ---- places
 
@@ -82,6 +80,10 @@ sent-set (x ∷ l) (suc at) e (suc n) a b = let ih = sent-set l at e n (omega ar
 bit-sent : (e : ℕ) → e ≢ 0 → sentBit e ≡ 1
 bit-sent zero h = absurd (h refl)
 bit-sent (suc e) h = refl
+
+bit-most : (e : ℕ) → sentBit e ≤ 1
+bit-most zero = omega arith
+bit-most (suc e) = omega arith
 
 module _ (l : List ℕ) (at e n : ℕ) (a : at < n) (b : n ≤ length l) (h : e ≢ 0) where
   -- a place that was 0 counts one more
@@ -154,38 +156,43 @@ place-lt i (S r) a b = omega arith
 place-lt i (F r q v) a b = omega arith
 place-lt i (Decision v) a b = omega arith
 
--- what is true of the store itself, and of the store with the entry written, is true after handing over; so of the store with the number that turned
-pub handing : (P : List ℕ → ℕ → Type 0) (i : ℕ) (m : Message) (l : List ℕ) → (¬ IsMessage m → P l 0)
-    → (IsMessage m → P (set l (placeOf i m) (entryFor i m)) (bitOf (eqb (getD l (placeOf i m) 0) 0)))
-    → P (handOver i m l) (turned i m l)
-unfolding handOver turned
-handing P i Nothing l a b = a (λ x. x)
-handing P i (E r q v) l a b = b tt
-handing P i (S r) l a b = b tt
-handing P i (F r q v) l a b = b tt
-handing P i (Decision v) l a b = b tt
+-- what is true of the store itself with nothing counted, and of the store with the entry written, one message, and one repeat where its old entry is sent, is true after handing over
+pub counting : (P : List ℕ → ℕ → ℕ → Type 0) (i : ℕ) (m : Message) (l : List ℕ) → (¬ IsMessage m → P l 0 0)
+    → (IsMessage m → P (set l (placeOf i m) (entryFor i m)) 1 (sentBit (getD l (placeOf i m) 0)))
+    → P (handOver i m l) (length (one i m)) (repeats i m l)
+unfolding handOver one repeats
+counting P i Nothing l a b = a (λ x. x)
+counting P i (E r q v) l a b = b tt
+counting P i (S r) l a b = b tt
+counting P i (F r q v) l a b = b tt
+counting P i (Decision v) l a b = b tt
 
--- an entry that turns from 0 and one that is sent make 1
-turn-bits : (e : ℕ) → bitOf (eqb e 0) + sentBit e ≡ 1
-turn-bits zero = refl
-turn-bits (suc e) = rw (eqb·suc-zero e)
+-- so of the store alone
+pub handing : (P : List ℕ → Type 0) (i : ℕ) (m : Message) (l : List ℕ) → (¬ IsMessage m → P l) → (IsMessage m → P (set l (placeOf i m) (entryFor i m)))
+    → P (handOver i m l)
+handing P = counting (λ k s t. P k)
 
 module _ (i : ℕ) (m : Message) (l : List ℕ) where
+  -- at most one message is counted, and a repeat is one
+  pub counted-once : (length (one i m) ≤ 1) × (repeats i m l ≤ length (one i m))
+  counted-once =
+      counting (λ k s t. (s ≤ 1) × (t ≤ s)) i m l (λ no. (omega arith, omega arith)) (λ is. (omega arith, bit-most (getD l (placeOf i m) 0)))
+
   -- the store keeps its length
   pub handOver-length : length (handOver i m l) ≡ length l
   handOver-length =
-      handing (λ (k : List ℕ) (t : ℕ). length k ≡ length l) i m l (λ no. refl) (λ is. length-set l (placeOf i m) (entryFor i m))
+      handing (λ (k : List ℕ). length k ≡ length l) i m l (λ no. refl) (λ is. length-set l (placeOf i m) (entryFor i m))
 
   -- the message's own place has its entry
   pub handOver-own : IsMessage m → placeOf i m < length l → getD (handOver i m l) (placeOf i m) 0 ≡ entryFor i m
   handOver-own is lt =
-      handing (λ (k : List ℕ) (t : ℕ). getD k (placeOf i m) 0 ≡ entryFor i m) i m l (λ no. absurd (no is))
+      handing (λ (k : List ℕ). getD k (placeOf i m) 0 ≡ entryFor i m) i m l (λ no. absurd (no is))
       (λ is. own l (placeOf i m) (entryFor i m) lt)
 
   -- any other place has the old one
   pub handOver-other : (s : ℕ) → s ≢ placeOf i m → getD (handOver i m l) s 0 ≡ getD l s 0
   handOver-other s ne =
-      handing (λ (k : List ℕ) (t : ℕ). getD k s 0 ≡ getD l s 0) i m l (λ no. refl)
+      handing (λ (k : List ℕ). getD k s 0 ≡ getD l s 0) i m l (λ no. refl)
       (λ is. other l (placeOf i m) (entryFor i m) s ne)
 
   module _ (hi : i ≤ greatestSize) (le : messageRound m ≤ lastRound) where
@@ -193,17 +200,29 @@ module _ (i : ℕ) (m : Message) (l : List ℕ) where
     pub handOver-past : (s : ℕ) → storeLength ≤ s → getD (handOver i m l) s 0 ≡ getD l s 0
     handOver-past s h = handOver-other s (omega (arith, place-lt i m hi le))
 
-    -- what turned is what more is sent
+    -- the messages handed over are the entries that turn from 0 and the repeats
     pub handOver-sent : storeLength ≤ length l → (IsMessage m → entryFor i m ≢ 0)
-        → sentIn (handOver i m l) storeLength ≡ sentIn l storeLength + turned i m l
+        → sentIn (handOver i m l) storeLength + repeats i m l ≡ sentIn l storeLength + length (one i m)
     handOver-sent long ne =
-        handing (λ (k : List ℕ) (t : ℕ). sentIn k storeLength ≡ sentIn l storeLength + t) i m l (λ no. omega arith)
+        counting (λ k s t. sentIn k storeLength + t ≡ sentIn l storeLength + s) i m l (λ no. omega arith)
+        (λ is. omega (arith, sent-set l (placeOf i m) (entryFor i m) storeLength (place-lt i m hi le) long, bit-sent (entryFor i m) (ne is)))
+
+    -- where the entry was 0 one more is sent, and never fewer
+    pub handOver-new : storeLength ≤ length l → (IsMessage m → entryFor i m ≢ 0) → IsMessage m → getD l (placeOf i m) 0 ≡ 0
+        → sentIn (handOver i m l) storeLength ≡ sentIn l storeLength + 1
+    handOver-new long ne is z =
+        handing (λ k. sentIn k storeLength ≡ sentIn l storeLength + 1) i m l (λ no. absurd (no is))
+        (λ is. sent-more l (placeOf i m) (entryFor i m) storeLength (place-lt i m hi le) long (ne is) z)
+
+    pub handOver-more : storeLength ≤ length l → (IsMessage m → entryFor i m ≢ 0) → sentIn l storeLength ≤ sentIn (handOver i m l) storeLength
+    handOver-more long ne =
+        handing (λ k. sentIn l storeLength ≤ sentIn k storeLength) i m l (λ no. omega arith)
         (λ is.
         omega (
           arith,
           sent-set l (placeOf i m) (entryFor i m) storeLength (place-lt i m hi le) long,
           bit-sent (entryFor i m) (ne is),
-          turn-bits (getD l (placeOf i m) 0),
+          bit-most (getD l (placeOf i m) 0),
         ))
 
 -- ---- the store of a start: process 1's first message, and nothing else
@@ -228,13 +247,12 @@ module _ (v : ℕ) (l : List ℕ) (long : storeLength ≤ length l) where
       handOver-other 1 (firstMessage v) (cleared storeLength l) s (omega arith) ∙ cleared-past storeLength l s le
 
   pub opened-sent : sentIn (opened v l) storeLength ≡ 1
-  unfolding opened messageRound entryFor turned placeOf
+  unfolding opened messageRound entryFor placeOf
   opened-sent =
       let room = cleared-length storeLength l long in
-      let unsent : bitOf (eqb (getD (cleared storeLength l) 0 0) 0) ≡ 1 =
-      ap (λ (e : ℕ). bitOf (eqb e 0)) (cleared-below storeLength l 0 (omega arith)) in
       omega (
         arith,
-        handOver-sent 1 (firstMessage v) (cleared storeLength l) (omega arith) (omega arith) (omega arith) (λ is. entry-nonzero 1 v (omega arith)),
+        handOver-new 1 (firstMessage v) (cleared storeLength l) (omega arith) (omega arith) (omega arith) (λ is. entry-nonzero 1 v (omega arith)) tt
+            (cleared-below storeLength l 0 (omega arith)),
         cleared-sent storeLength l long,
       )

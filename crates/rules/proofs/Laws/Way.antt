@@ -4,7 +4,6 @@ use mathlib.Core.Bool.{Bool, true, false, not}
 use mathlib.Core.List.{List}
 use Prim.Native.Nat.{ℕ, _+_, _≤_, _<_, max}
 use native.Mathlib.Omega.{arith}
-use lib.Dec.{eqb}
 use lib.ListN.{getD, set}
 use borrow.Author.Tests.{ltb-false}
 use Rattle.rules.specs.declared.group.Group.{Group}
@@ -18,8 +17,8 @@ use Rattle.rules.specs.declared.step.Step.{Step}
 use Rattle.rules.specs.declared.step.Step.the-variants.{DeliverE, DeliverS, DeliverF, DeliverDecision, Suspect, Pause, Crash, Recover}
 use Rattle.rules.specs.Limits.{greatestSize, lastRound, storeLength, deepestMessage, deepestProcess}
 use Rattle.rules.specs.Layout.{processAt, depthAt}
-use Rattle.rules.specs.Store.{placeOf, messageRound, handOver, turned}
-use Rattle.rules.specs.Tally.{bitOf}
+use Rattle.rules.specs.Store.{placeOf, messageRound, handOver, one, sentBit, repeats}
+use Rattle.rules.specs.declared.store.Traffic.{Traffic}
 use Rattle.rules.specs.Kinds.{takerOf, delivers, entryIn}
 use Rattle.rules.specs.Idle.{idle, idleE, idleS, idleF}
 use Rattle.rules.specs.Depths.{deliveredDepth, raises, raised, depthAfter, datedAt, dated}
@@ -111,9 +110,9 @@ module _ (g : Group) (l d : List ℕ) (s : Step) {i k : ℕ} {x : Next} (e : lif
 -- ---- handing over by the message's spot
 
 module _ (i k : ℕ) (l d : List ℕ) where
-  pub hands-nothing : (m : Message) → spotOf i m ≡ Spot.Nowhere → HandsOver i m k l d l d 0
-  unfolding spotOf handOver dated turned
-  hands-nothing Nothing e = record { store = refl; depths = refl; turns = refl }
+  pub hands-nothing : (m : Message) → spotOf i m ≡ Spot.Nowhere → HandsOver i m k l d l d (record { sent = 0; again = 0 })
+  unfolding spotOf handOver dated one repeats
+  hands-nothing Nothing e = record { store = refl; depths = refl; sent = refl; again = refl }
   hands-nothing (E r q v) e = let z : _≡_ {A = ℕ} 0 1 = cc in absurd (omega arith)
   hands-nothing (S r) e = let z : _≡_ {A = ℕ} 0 1 = cc in absurd (omega arith)
   hands-nothing (F r q v) e = let z : _≡_ {A = ℕ} 0 1 = cc in absurd (omega arith)
@@ -121,23 +120,25 @@ module _ (i k : ℕ) (l d : List ℕ) where
 
   -- what writing an entry at a place leaves
   abbrev Writes : ℕ → ℕ → List ℕ → List ℕ → ℕ → Type 0
-  Writes at e l′ d′ sent = (l′ ≡ set l at e) × (d′ ≡ datedAt at k l d) × (sent ≡ bitOf (eqb (getD l at 0) 0))
+  Writes at e l′ d′ again = (l′ ≡ set l at e) × (d′ ≡ datedAt at k l d) × (again ≡ sentBit (getD l at 0))
 
-  pub hands-spot : (m : Message) {at e sent : ℕ} {l′ d′ : List ℕ} → spotOf i m ≡ Spot.At at e → Writes at e l′ d′ sent → HandsOver i m k l d l′ d′ sent
-  unfolding spotOf handOver dated turned
+  pub hands-spot : (m : Message) {at e again : ℕ} {l′ d′ : List ℕ} → spotOf i m ≡ Spot.At at e → Writes at e l′ d′ again
+      → HandsOver i m k l d l′ d′ (record { sent = 1; again = again })
+  unfolding spotOf handOver dated one repeats
   hands-spot Nothing h w = let z : _≡_ {A = ℕ} 0 1 = cc in absurd (omega arith)
-  hands-spot (E r q v) h w = record { store = cc; depths = cc; turns = cc }
-  hands-spot (S r) h w = record { store = cc; depths = cc; turns = cc }
-  hands-spot (F r q v) h w = record { store = cc; depths = cc; turns = cc }
-  hands-spot (Decision v) h w = record { store = cc; depths = cc; turns = cc }
+  hands-spot (E r q v) h w = record { store = cc; depths = cc; sent = refl; again = cc }
+  hands-spot (S r) h w = record { store = cc; depths = cc; sent = refl; again = cc }
+  hands-spot (F r q v) h w = record { store = cc; depths = cc; sent = refl; again = cc }
+  hands-spot (Decision v) h w = record { store = cc; depths = cc; sent = refl; again = cc }
 
 -- one message, and then another
-pub hands-both : {i k a b : ℕ} {m m′ : Message} {l d once deep last deeper : List ℕ} → HandsOver i m k l d once deep a → HandsOver i m′ k once deep last deeper b
-    → HandsOverBoth i m m′ k l d last deeper (a + b)
+pub hands-both : {i k : ℕ} {a b : Traffic} {m m′ : Message} {l d once deep last deeper : List ℕ} → HandsOver i m k l d once deep a → HandsOver i m′ k once deep last deeper b
+    → HandsOverBoth i m m′ k l d last deeper (record { sent = a .sent + b .sent; again = a .again + b .again })
 hands-both {i} {k} {a} {b} {m} {m′} h g = record {
   store = g .store ∙ ap (handOver i m′) (h .store);
   depths = g .depths ∙ ap₂ (dated i m′ k) (h .store) (h .depths);
-  turns = ap₂ _+_ (h .turns) (g .turns ∙ ap (turned i m′) (h .store));
+  sent = ap₂ _+_ (h .sent) (g .sent);
+  again = ap₂ _+_ (h .again) (g .again ∙ ap (repeats i m′) (h .store));
 }
 
 pub spot-low : (i : ℕ) (m : Message) {at e : ℕ} → 1 ≤ i → i ≤ greatestSize → messageRound m ≤ lastRound → spotOf i m ≡ Spot.At at e → at < storeLength

@@ -18,7 +18,7 @@ use Rattle.rules.specs.Depths.{deliveredDepth, raises, raised, depthAfte
 use Rattle.rules.specs.Refusals.{row, short, miscounted, damaged, tooDeep, refusal, startRefusal}
 use Rattle.rules.specs.Answers.{saysRefused, outcome}
 use Rattle.rules.specs.Start.{startedTo, firstMessage, openedDepths, unlessRefusedStart}
-use Rattle.rules.specs.Step.{Course, Idles, Refuses, Takes, unlessRefused, handOvers, sentBy, course, settled, stepped}
+use Rattle.rules.specs.Step.{Course, Idles, Refuses, Takes, unlessRefused, handOvers, course, settled, stepped}
 use Rattle.rules.specs.Limits.{greatestSize, storeLength, deepestMessage, deepestProcess, among}
 use Rattle.rules.specs.Layout.{withProcess, depthAt, withDepth, Sized, blankGroup}
 use Rattle.rules.specs.Store.{handOver, cleared}
@@ -42,11 +42,11 @@ deep-keeps g l d s = go (refusal g l d s)
     go zero ne = absurd (ne refl)
     go (suc k) ne = refl
 
--- what is true of the group and both stores as they were, with nothing sent, and of those that a process leaves, is true after every step
-pub deep-step-by : (P : Group → List ℕ → List ℕ → ℕ → Type 0) (g : Group) (l d : List ℕ) (s : Step) → P g l d 0
+-- what is true of the group and both stores as they were, and of those that a process leaves, is true after every step
+pub deep-step-by : (P : Group → List ℕ → List ℕ → Type 0) (g : Group) (l d : List ℕ) (s : Step) → P g l d
     → ((x : Next) → Taking (g .n) (takerOf s) x → DeepPassed g l d s
-    → P (withDepth (withProcess g (takerOf s) (x .process)) (takerOf s) (depthAfter g d s)) (handOvers (takerOf s) x l) (datedBoth (takerOf s) x (depthAfter g d s) l d) (sentBy (takerOf s) x l))
-    → P (stepped g l d s .group) (stepped g l d s .store) (stepped g l d s .depths) (stepped g l d s .says .sent)
+    → P (withDepth (withProcess g (takerOf s) (x .process)) (takerOf s) (depthAfter g d s)) (handOvers (takerOf s) x l) (datedBoth (takerOf s) x (depthAfter g d s) l d))
+    → P (stepped g l d s .group) (stepped g l d s .store) (stepped g l d s .depths)
 unfolding stepped settled
 deep-step-by P g l d s a b = go (course g l d s) refl
   where
@@ -54,12 +54,12 @@ deep-step-by P g l d s a b = go (course g l d s) refl
     k = depthAfter g d s
 
     go : (c : Course) → course g l d s ≡ c
-        → P (settled g l d k c .group) (settled g l d k c .store) (settled g l d k c .depths) (settled g l d k c .says .sent)
+        → P (settled g l d k c .group) (settled g l d k c .store) (settled g l d k c .depths)
     go Idles e = a
     go (Refuses n) e = a
     go (Takes i x) e =
         let t = course-takes g l d s e in
-        subst (λ (j : ℕ). Taking (g .n) j x → P (withDepth (withProcess g j (x .process)) j k) (handOvers j x l) (datedBoth j x k l d) (sentBy j x l)) (sym (t .2))
+        subst (λ (j : ℕ). Taking (g .n) j x → P (withDepth (withProcess g j (x .process)) j k) (handOvers j x l) (datedBoth j x k l d)) (sym (t .2))
         (λ h. b x h (t .1)) (t .0)
 
 -- the depth that a step gives is not above the limit
@@ -116,17 +116,17 @@ module _ (g : Group) (l d : List ℕ) (s : Step) where
   -- the group keeps its size and its columns
   pub deep-step-size : stepped g l d s .group .n ≡ g .n
   unfolding withDepth withProcess
-  deep-step-size = deep-step-by (λ (g' : Group) (l' d' : List ℕ) (k : ℕ). g' .n ≡ g .n) g l d s refl (λ x t p. refl)
+  deep-step-size = deep-step-by (λ (g' : Group) (l' d' : List ℕ). g' .n ≡ g .n) g l d s refl (λ x t p. refl)
 
   pub deep-sized-step : Sized g → Sized (stepped g l d s .group)
   deep-sized-step sized =
-      deep-step-by (λ (g' : Group) (l' d' : List ℕ) (k : ℕ). Sized g') g l d s sized
+      deep-step-by (λ (g' : Group) (l' d' : List ℕ). Sized g') g l d s sized
       (λ x t p. sized-deep (withProcess g (takerOf s) (x .process)) (takerOf s) (depthAfter g d s) (sized-with g (takerOf s) (x .process) sized))
 
   -- a sound group stays sound
   pub deep-sound-step : Sized g → damaged g ≡ false → damaged (stepped g l d s .group) ≡ false
   deep-sound-step sized e =
-      deep-step-by (λ (g' : Group) (l' d' : List ℕ) (k : ℕ). damaged g' ≡ false) g l d s e
+      deep-step-by (λ (g' : Group) (l' d' : List ℕ). damaged g' ≡ false) g l d s e
       (λ x t p.
       sound-put g (takerOf s) (depthAfter g d s) (x .process) sized e (t .low) (t .high) (t .process)
       (after-fits g l d s p (deep-facts g e .1 (takerOf s) (t .low) (t .high))))
@@ -134,12 +134,12 @@ module _ (g : Group) (l d : List ℕ) (s : Step) where
   -- both stores keep their lengths
   pub deep-step-length : length (stepped g l d s .store) ≡ length l
   deep-step-length =
-      deep-step-by (λ (g' : Group) (l' d' : List ℕ) (k : ℕ). length l' ≡ length l) g l d s refl (λ x t p. overs-length (g .n) (takerOf s) x l)
+      deep-step-by (λ (g' : Group) (l' d' : List ℕ). length l' ≡ length l) g l d s refl (λ x t p. overs-length (g .n) (takerOf s) x l)
 
   pub depths-step-length : length (stepped g l d s .depths) ≡ length d
   unfolding datedBoth
   depths-step-length =
-      deep-step-by (λ (g' : Group) (l' d' : List ℕ) (k : ℕ). length d' ≡ length d) g l d s refl
+      deep-step-by (λ (g' : Group) (l' d' : List ℕ). length d' ≡ length d) g l d s refl
       (λ x t p. dated-length (takerOf s) (x .second) (depthAfter g d s) (handOver (takerOf s) (x .first) l) _ ∙ dated-length (takerOf s) (x .first) (depthAfter g d s) l d)
 
 -- ---- a start

@@ -16,11 +16,11 @@ use Rattle.rules.specs.Limits.{greatestSize, storeLength, mostRecoveries
 use Rattle.rules.specs.Tally.{joined, bitOf}
 use Rattle.rules.specs.Layout.{processAt, forgetting}
 use Rattle.rules.specs.Records.{stored, blank}
-use Rattle.rules.specs.Store.{kindE, kindS, kindF, proposerOf, sentIn}
+use Rattle.rules.specs.Store.{kindE, kindS, kindF, proposerOf, Handed, handed, sentIn}
 use Rattle.rules.specs.Kinds.{takerOf}
 use Rattle.rules.specs.Refusals.{strange, isRecover, down}
-use Rattle.rules.specs.Answers.{allSent}
-use Rattle.rules.specs.Run.{State, startState, next, after, Handed, handed, handedByCourse, handedBy, handedIn, handedFrom}
+use Rattle.rules.specs.Answers.{allSent, allAgain}
+use Rattle.rules.specs.Run.{State, startState, next, after, answers, handedByCourse, handedBy, handedIn, handedFrom}
 use Rattle.rules.specs.Start.{firstMessage}
 use Rattle.rules.specs.Safety.{Begins, at, Of, processOf, Holds, refusalAt, Agreement, Validity, FirstValuesStay, DecisionsStay, DownThrough, cut, back}
 use Rattle.rules.specs.Safety.{Recovery, DownKeeps, GoingDownKeeps, CutStores, Among, Comes, RefusalSix, PastKept, SentCounts, SoundEntries}
@@ -204,8 +204,8 @@ past-kept vs l d ss b k le =
 
 pub sent-counts : SentCounts
 sent-counts vs l d ss b =
-    ap (λ (m : List ℕ). sentIn m storeLength) (sym (store-here vs l d ss b))
-    ∙ entries.sent-counts vs l ss (bare-begins b) ∙ ap (λ xs. 1 + allSent xs) (sym (answers-stay vs l d ss b))
+    subst (λ (m : List ℕ). 1 + allSent (answers (startState vs l d) ss) ≡ sentIn m storeLength + allAgain (answers (startState vs l d) ss)) (store-here vs l d ss b)
+    (subst (λ xs. 1 + allSent xs ≡ sentIn (bare.at vs l ss .store) storeLength + allAgain xs) (sym (answers-stay vs l d ss b)) (entries.sent-counts vs l ss (bare-begins b)))
 
 pub above-blank : (vs l d : List ℕ) (ss : List Step) → Begins vs l d → (i : ℕ) → length vs < i → i ≤ greatestSize → processOf (at vs l d ss) i ≡ blank
 above-blank vs l d ss b i lo hi = sym (here vs l d ss b i hi) ∙ entries.above-kept vs l ss (bare-begins b) i lo hi

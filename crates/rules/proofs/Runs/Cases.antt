@@ -99,7 +99,7 @@ process-by Q g l s i sized lo hi crash old new =
 pub handed-by : (Q : ℕ → Type 0) (i : ℕ) (m : Message) (l : List ℕ) (k : ℕ) → placeOf i m < length l → (IsMessage m → Q (entryFor i m)) → Q (getD l k 0)
     → Q (getD (handOver i m l) k 0)
 handed-by Q i m l k lt new old =
-    handing (λ (l' : List ℕ) (t : ℕ). Q (getD l' k 0)) i m l (λ no. old) (λ is. written (new is) (ℕ-discrete k (placeOf i m)))
+    handing (λ (l' : List ℕ). Q (getD l' k 0)) i m l (λ no. old) (λ is. written (new is) (ℕ-discrete k (placeOf i m)))
   where
     written : Q (entryFor i m) → Dec (k ≡ placeOf i m) → Q (getD (set l (placeOf i m) (entryFor i m)) k 0)
     written h (yes e) =

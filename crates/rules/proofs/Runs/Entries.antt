@@ -1,4 +1,4 @@
--- The store of a run: an entry once sent stays sent, entries past the store stay, and what is sent is 1 and the sum of *sent*; records above n stay blank. Assumes nothing.
+-- The store of a run: a step leaves what is sent sent, entries past the store stay, and what is sent is 1 and all *sent* without all *again*; records above n stay blank. Assumes nothing.
 use mathlib.Core.Path.{_≡_, ap, _∙_}
 use mathlib.Core.List.{List, [], _∷_}
 use mathlib.Core.Logic.{_≢_}
@@ -10,14 +10,14 @@ use Rattle.rules.specs.declared.step.Step.{Step}
 use Rattle.rules.specs.Limits.{storeLength}
 use Rattle.rules.specs.Records.{blank}
 use Rattle.rules.specs.Store.{sentIn}
-use Rattle.rules.specs.Answers.{total, allSent}
+use Rattle.rules.specs.Answers.{total, allSent, allAgain}
 use Rattle.rules.proofs.Bare.Run.{State, startState, next, after, answers}
-use Rattle.rules.proofs.Bare.Statements.{at, processOf, SentStays, PastKept, SentCounts, AboveKept}
+use Rattle.rules.proofs.Bare.Statements.{processOf, PastKept, SentCounts, AboveKept}
 use Rattle.rules.proofs.Bare.Step.{begun, stepped}
 use Rattle.rules.proofs.Laws.Store.{opened-past, opened-sent}
 use Rattle.rules.proofs.Laws.Group.{started-blank}
 use Rattle.rules.proofs.Laws.Sound.{named-entry, step-by, step-past, step-above, step-sent}
-use Rattle.rules.proofs.Runs.Basics.{Basic, basic, basic-start, basic-next, start-is, onward}
+use Rattle.rules.proofs.Runs.Basics.{Basic, basic-start, basic-next, start-is, onward}
 use Rattle.rules.proofs.Runs.Cases.{throughout, overs-by}
 
 -- ---- what is sent stays sent
@@ -25,16 +25,10 @@ use Rattle.rules.proofs.Runs.Cases.{throughout, overs-by}
 -- one step
 pub step-stays : (g : Group) (l : List ℕ) (s : Step) (k : ℕ) → storeLength ≤ length l → getD l k 0 ≢ 0 → getD (stepped g l s .store) k 0 ≢ 0
 step-stays g l s k long ne =
-    step-by (λ (g' : Group) (l' : List ℕ) (t : ℕ). getD l' k 0 ≢ 0) g l s ne
+    step-by (λ (g' : Group) (l' : List ℕ). getD l' k 0 ≢ 0) g l s ne
     (λ i x h.
     overs-by (λ (e : ℕ). e ≢ 0) (g .n) i x l k h long (named-entry (g .n) i (x .first) (h .low) (h .first-named))
     (named-entry (g .n) i (x .second) (h .low) (h .second-named)) ne)
-
-pub sent-stays : SentStays
-unfolding next
-sent-stays vs l ss b ts k lt ne =
-    throughout vs (λ (a : State). getD (a .store) k 0 ≢ 0) (λ a s h. step-stays (a .group) (a .store) s k (h .long)) (at vs l ss) ts
-    (basic vs l ss b) ne
 
 -- ---- what no step touches
 
@@ -56,7 +50,7 @@ above-kept vs l ss b i lo hi =
 
 -- from any state of a run on
 counts-on : (vs : List ℕ) (a : State) (ss : List Step) → Basic vs a
-    → sentIn (after a ss .store) storeLength ≡ sentIn (a .store) storeLength + allSent (answers a ss)
+    → sentIn (a .store) storeLength + allSent (answers a ss) ≡ sentIn (after a ss .store) storeLength + allAgain (answers a ss)
 unfolding after answers total next
 counts-on vs a [] h = omega arith
 counts-on vs a (s ∷ ss) h =

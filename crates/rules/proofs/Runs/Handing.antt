@@ -18,16 +18,16 @@ use Rattle.rules.specs.declared.step.Step.{Step}
 use Rattle.rules.specs.declared.step.Step.the-variants.{DeliverE, DeliverS, DeliverF, DeliverDecision, Suspect, Pause, Crash, Recover}
 use Rattle.rules.specs.Refusals.{row, every, short, strange, late, down, unsent, misnamed, impossible, recoversPast, entersPast}
 use Rattle.rules.specs.Start.{firstMessage, opened}
-use Rattle.rules.specs.Step.{Course, Idles, Refuses, Takes, handOvers}
-use Rattle.rules.specs.Run.{Handed, handed, one, handedByCourse}
-use Rattle.rules.specs.Safety.{Delivers, Among}
+use Rattle.rules.specs.Step.{Course, Idles, Refuses, Takes, handedOf, handOvers}
+use Rattle.rules.specs.Run.{handedByCourse}
+use Rattle.rules.specs.Safety.{Delivers, In, Among}
 use Rattle.rules.proofs.Bare.Run.{State, startState, next, after, handedBy, handedIn, handedFrom}
 use Rattle.rules.proofs.Bare.Statements.{Begins, at, RefusalSix}
 use Rattle.rules.proofs.Bare.Step.{begun, damaged, refusalBy, refusal, course, settled, stepped}
 use Rattle.rules.specs.Limits.{greatestSize, lastRound, storeLength, among}
-use Rattle.rules.specs.Store.{kindE, kindS, kindF, placeOf, messageRound, handOver, cleared}
+use Rattle.rules.specs.Store.{kindE, kindS, kindF, placeOf, messageRound, handOver, Handed, handed, one, cleared}
 use Rattle.rules.specs.Kinds.{numbersOf, roundOf, delivers, slotOf, entryIn}
-use Rattle.rules.specs.Safety.Among.{here, later}
+use Rattle.rules.specs.Safety.In.{here, later}
 use Rattle.rules.proofs.Laws.Bool.{and-right, and-both}
 use Rattle.rules.proofs.Laws.Store.{Place, slot-same, IsMessage, place-lt, handOver-length, handOver-own, handOver-other, cleared-length, cleared-below}
 use Rattle.rules.proofs.Laws.Sound.{named-entry, second-among, Named, Fine, course-fine, sound-facts}
@@ -128,36 +128,36 @@ place-delivered (Recover t) i m h lo hi le is e = absurd h
 -- ---- lists of messages
 
 -- in the first list, and in the second
-among-left : {s : Step} {hs : List Handed} (ks : List Handed) → Among s hs → Among s (hs ++ ks)
-among-left ks (here d) = here d
-among-left ks (later a) = later (among-left ks a)
+in-left : {h : Handed} {hs : List Handed} (ks : List Handed) → In h hs → In h (hs ++ ks)
+in-left ks here = here
+in-left ks (later a) = later (in-left ks a)
 
-among-right : {s : Step} (hs : List Handed) {ks : List Handed} → Among s ks → Among s (hs ++ ks)
-among-right [] a = a
-among-right (h ∷ hs) a = later (among-right hs a)
+in-right : {h : Handed} (hs : List Handed) {ks : List Handed} → In h ks → In h (hs ++ ks)
+in-right [] a = a
+in-right (k ∷ hs) a = later (in-right hs a)
 
 -- nothing stands in the empty list
-abbrev Some : List Handed → Type 0
+abbrev pub Some : List Handed → Type 0
 Some [] = ⊥
 Some (h ∷ hs) = Unit {0}
 
-among-some : {s : Step} {hs : List Handed} → Among s hs → Some hs
-among-some (here d) = tt
-among-some (later a) = tt
+pub in-some : {h : Handed} {hs : List Handed} → In h hs → Some hs
+in-some here = tt
+in-some (later a) = tt
 
 -- in a list of one
-among-one : {s : Step} {h : Handed} → Among s (h ∷ []) → Delivers s h
-among-one (here d) = d
+pub in-one : {h k : Handed} → In h (k ∷ []) → h ≡ k
+in-one here = refl
 
 -- in two lists: in the one or in the other
-either : {s : Step} {h : Handed} {hs ks : List Handed} → Among s hs ⊎ Among s ks → Among s (h ∷ hs) ⊎ Among s ks
+either : {h k : Handed} {hs ks : List Handed} → In h hs ⊎ In h ks → In h (k ∷ hs) ⊎ In h ks
 either (inl a) = inl (later a)
 either (inr a) = inr a
 
-among-cases : {s : Step} (hs : List Handed) {ks : List Handed} → Among s (hs ++ ks) → Among s hs ⊎ Among s ks
-among-cases [] a = inr a
-among-cases (h ∷ hs) (here d) = inl (here d)
-among-cases (h ∷ hs) (later a) = either (among-cases hs a)
+pub in-cases : {h : Handed} (hs : List Handed) {ks : List Handed} → In h (hs ++ ks) → In h hs ⊎ In h ks
+in-cases [] a = inr a
+in-cases (k ∷ hs) here = inl here
+in-cases (k ∷ hs) (later a) = either (in-cases hs a)
 
 -- ---- the store tells what was handed over
 
@@ -172,19 +172,21 @@ module _ (n i : ℕ) (lo : 1 ≤ i) (hi : i ≤ greatestSize) (l : List ℕ) (hs
     where
       go : Dec (slotOf s ≡ placeOf i m) → (getD (handOver i m l) (slotOf s) 0 ≢ 0) ↔ Among s (hs ++ (handed i m ∷ []))
       go (yes e) = (
-        λ ne. among-right hs (here (place-delivered s i m h lo hi le is e)),
+        λ ne. record { handed = handed i m; stands = in-right hs here; delivered = place-delivered s i m h lo hi le is e },
         λ a z. named-entry n i m lo named is
             (sym (handOver-own i m l is (omega (arith, place-lt i m hi le))) ∙ ap (λ (k : ℕ). getD (handOver i m l) k 0) (sym e) ∙ z),
       )
       go (no ne) =
           let same = handOver-other i m l (slotOf s) ne in (
-            λ sent. among-left (handed i m ∷ []) (t s h .0 (λ z. sent (same ∙ z))),
-            λ a z. split (among-cases hs a) (sym same ∙ z),
+            λ sent.
+                let a = t s h .0 (λ z. sent (same ∙ z)) in
+                record { handed = a .handed; stands = in-left (handed i m ∷ []) (a .stands); delivered = a .delivered },
+            λ a z. split (a .handed) (a .delivered) (in-cases hs (a .stands)) (sym same ∙ z),
           )
         where
-          split : Among s hs ⊎ Among s (handed i m ∷ []) → getD l (slotOf s) 0 ≢ 0
-          split (inl a) = t s h .1 a
-          split (inr a) = λ z. ne (delivered-place s i m (among-one a))
+          split : (k : Handed) → Delivers s k → In k hs ⊎ In k (handed i m ∷ []) → getD l (slotOf s) 0 ≢ 0
+          split k d (inl a) = t s h .1 (record { handed = k; stands = a; delivered = d })
+          split k d (inr a) = λ z. ne (delivered-place s i m (subst (Delivers s) (in-one a) d))
 
   -- what one place of an event holds
   tells-one : (m : Message) → messageRound m ≤ lastRound → Named n m → Tells (handOver i m l) (hs ++ one i m)
@@ -203,12 +205,12 @@ tells-start v l long =
     (firstMessage v) zero-le (omega arith, omega arith)
   where
     clear : Tells (cleared storeLength l) []
-    clear s h = (λ ne. absurd (ne (cleared-below storeLength l (slotOf s) (address-lt s h))), λ a. absurd (among-some a))
+    clear s h = (λ ne. absurd (ne (cleared-below storeLength l (slotOf s) (address-lt s h))), λ a. absurd (in-some (a .stands)))
 
 -- one step
 module _ (g : Group) (l : List ℕ) (hs : List Handed) (long : storeLength ≤ length l) (t : Tells l hs) where
   tells-course : (c : Course) → Fine (g .n) c → Tells (settled g l c .store) (hs ++ handedByCourse c)
-  unfolding settled handOvers handedByCourse
+  unfolding settled handOvers handedOf handedByCourse
   tells-course Idles f = rw (append-nil hs) t
   tells-course (Refuses k) f = rw (append-nil hs) t
   tells-course (Takes i x) f =

@@ -98,7 +98,7 @@ hears-stays {l} {m} {n} {r} {f} {e} {s} stays h =
 module _ (n i : ℕ) (lo : 1 ≤ i) (hi : i ≤ greatestSize) where
   over-stays : (m : Message) (l : List ℕ) → messageRound m ≤ lastRound → Named n m → storeLength ≤ length l → Stays l (handOver i m l)
   over-stays m l le named long k sent =
-      handing (λ (l' : List ℕ) (t : ℕ). getD l' k 0 ≢ 0) i m l (λ none. sent) (λ is. go is (ℕ-discrete k (placeOf i m)))
+      handing (λ (l' : List ℕ). getD l' k 0 ≢ 0) i m l (λ none. sent) (λ is. go is (ℕ-discrete k (placeOf i m)))
     where
       go : IsMessage m → Dec (k ≡ placeOf i m) → getD (set l (placeOf i m) (entryFor i m)) k 0 ≢ 0
       go is (yes e) = λ z.

@@ -4,22 +4,16 @@ use mathlib.Core.Bool.{Bool, true, false}
 use mathlib.Core.List.{List, [], _∷_}
 use native.Mathlib.Omega.{arith}
 use Prim.Native.Nat.{ℕ, _+_, _-_, _*_, _≤_, _<_}
-use lib.Dec.{eqb}
-use lib.ListN.{length, getD}
+use lib.ListN.{length}
 use Rattle.rules.specs.Tally.{bitOf}
 use Rattle.rules.specs.Layout.{Sized}
-use Rattle.rules.specs.Store.{placeOf, handOver, turned}
 use Rattle.rules.specs.Answers.{Said, isRefused, total, Outcome, outcome}
-use Rattle.rules.specs.Depths.{depthAfter}
 use Rattle.rules.specs.Refusals.{damaged}
-use Rattle.rules.specs.Step.{Course, Idles, Refuses, Takes, sentBy, course, settled, stepped, Ready}
+use Rattle.rules.specs.Step.{stepped, Ready}
 use Rattle.rules.specs.Run.{State, stateOf, next, after, answers}
 use Rattle.rules.specs.declared.group.Group.{Group}
-use Rattle.rules.specs.declared.process.Message.{Message}
-use Rattle.rules.specs.declared.process.Message.the-variants.{Nothing, E, S, F, Decision}
-use Rattle.rules.specs.declared.process.Next.{Next}
 use Rattle.rules.specs.declared.step.Step.{Step}
-use Rattle.rules.proofs.Cited.{deep-sound-step, deep-sized-step, deep-step-length, depths-step-length}
+use Rattle.rules.proofs.Cited.{safety, deep-sound-step, deep-sized-step, deep-step-length, depths-step-length}
 use Rattle.schedule.specs.Limits.{mostSteps}
 use Rattle.schedule.specs.Lines.{items, linesAt}
 use Rattle.schedule.specs.Line.{lineAt}
@@ -31,35 +25,11 @@ use Rattle.schedule.specs.declared.line.StepRead.{StepRead}
 use Rattle.schedule.proofs.Running.Counts.{counted-is}
 use Rattle.schedule.proofs.Reading.InARow.{First, lines-first, lines-none, one-less, same-thing, same-place, same-things}
 
--- ---- a step sends at most two
+-- ---- counts of i steps
 
 bit-one : (b : Bool) → bitOf b ≤ 1
 bit-one true = omega arith
 bit-one false = omega arith
-
-turned-one : (i : ℕ) (m : Message) (l : List ℕ) → turned i m l ≤ 1
-unfolding turned
-turned-one i Nothing l = omega arith
-turned-one i (E r q v) l = bit-one (eqb (getD l (placeOf i (E r q v)) 0) 0)
-turned-one i (S r) l = bit-one (eqb (getD l (placeOf i (S r)) 0) 0)
-turned-one i (F r q v) l = bit-one (eqb (getD l (placeOf i (F r q v)) 0) 0)
-turned-one i (Decision v) l = bit-one (eqb (getD l (placeOf i (Decision v)) 0) 0)
-
-sent-two : (i : ℕ) (x : Next) (l : List ℕ) → sentBy i x l ≤ 2
-unfolding sentBy
-sent-two i x l = omega (arith, turned-one i (x .first) l, turned-one i (x .second) (handOver i (x .first) l))
-
-settled-two : (g : Group) (l d : List ℕ) (k : ℕ) (c : Course) → settled g l d k c .says .sent ≤ 2
-unfolding settled
-settled-two g l d k Idles = omega arith
-settled-two g l d k (Refuses j) = omega arith
-settled-two g l d k (Takes i x) = sent-two i x l
-
-pub step-two : (g : Group) (l d : List ℕ) (s : Step) → stepped g l d s .says .sent ≤ 2
-unfolding stepped
-step-two g l d s = settled-two g l d (depthAfter g d s) (course g l d s)
-
--- ---- counts of i steps
 
 pub record Counting (c : Counts) (i : ℕ) : Type 0 where
   pub steps : c .steps ≤ i
@@ -67,21 +37,32 @@ pub record Counting (c : Counts) (i : ℕ) : Type 0 where
   pub idle : c .idle ≤ i
   pub refused : c .refused ≤ i
   pub sent : c .sent ≤ i * 2
+  pub again : c .again ≤ i * 2
   pub decided : c .decided ≤ i
 
 pub counting-none : Counting none 0
 unfolding countsIn total
-counting-none = record { steps = omega arith; applied = omega arith; idle = omega arith; refused = omega arith; sent = omega arith; decided = omega arith }
+counting-none =
+    record {
+      steps = omega arith;
+      applied = omega arith;
+      idle = omega arith;
+      refused = omega arith;
+      sent = omega arith;
+      again = omega arith;
+      decided = omega arith;
+    }
 
-pub counting-more : (c : Counts) (i : ℕ) (a : Said) → Counting c i → a .sent ≤ 2 → Counting (counted c a) (i + 1)
+pub counting-more : (c : Counts) (i : ℕ) (a : Said) → Counting c i → a .sent ≤ 2 → a .again ≤ 2 → Counting (counted c a) (i + 1)
 unfolding counted
-counting-more c i a h t =
+counting-more c i a h t u =
     record {
       steps = omega (arith, h .steps);
       applied = omega (arith, h .applied, bit-one (a .applied));
       idle = omega (arith, h .idle, bit-one (a .idle));
       refused = omega (arith, h .refused, bit-one (isRefused a));
       sent = omega (arith, h .sent);
+      again = omega (arith, h .again);
       decided = omega (arith, h .decided, bit-one (a .decided));
     }
 
@@ -93,6 +74,7 @@ counting-room c i h few =
       idle = omega (arith, h .idle);
       refused = omega (arith, h .refused);
       sent = omega (arith, h .sent);
+      again = omega (arith, h .again);
       decided = omega (arith, h .decided);
     }
 
@@ -196,8 +178,12 @@ module _ (s : List ℕ) (at count : ℕ) where
       deep-length-on : length (a′ .depths) ≡ length (a .depths)
       deep-length-on = ap length (sym depths-is) ∙ depths-step-length (a .group) (a .store) (a .depths) (t .step)
 
-      two : x .sent ≤ 2
-      two = omega (arith, step-two (a .group) (a .store) (a .depths) (t .step), ap (λ (y : Said). y .sent) says-is)
+      -- a step hands over at most two messages, so at most two again
+      sent-two : x .sent ≤ 2
+      sent-two = omega (arith, safety .two a (t .step), ap (λ (y : Said). y .sent) says-is)
+
+      again-two : x .again ≤ 2
+      again-two = omega (arith, safety .two a (t .step), ap (λ (y : Said). y .again) says-is)
 
       -- one more step is taken
       pub going-on : Going s at count a₀ a′ (counted c x) (i + 1) (t .next)
@@ -217,7 +203,7 @@ module _ (s : List ℕ) (at count : ℕ) where
                   deep-long = omega (arith, h .ready .deep-long, deep-length-on);
                   sound = sound-on;
                 };
-            counting = counting-more c i x (h .counting) two;
+            counting = counting-more c i x (h .counting) sent-two again-two;
             state = h .state ∙ ap (after a) rest-is ∙ state-on;
             counts = h .counts ∙ ap (λ (ys : List Step). countedAll c (answers a ys)) rest-is ∙ counts-on;
             same = length-on ∙ h .same;

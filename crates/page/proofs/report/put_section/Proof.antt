@@ -10,7 +10,7 @@ use Rattle.page.proofs.report.put_section.Tie as tie
 fill-requires : tie.Need-fill-requires
 fill-requires c κs =
     let start = c .before .before .before .before .before .before .before .before .before in
-    room-behind (longestOf 47 6) (piece-put longestWord (start .pre .0) (omega arith) (c .before .before .before .before .before .put-bytes .ensures)) (omega arith)
+    room-behind (longestOf 55 7) (piece-put longestWord (start .pre .0) (omega arith) (c .before .before .before .before .before .put-bytes .ensures)) (omega arith)
 
 returns : tie.Need-returns
 unfolding sectionLine

@@ -32,9 +32,9 @@ module _ (vs l d : List ℕ) where
       go (suc m) h z = rw h
 
   starting : {g : Group} {last deeper : List ℕ} → startRefusal vs l d ≡ 0 → g ≡ startedTo vs (length vs)
-      → (last ≡ opened (getD vs 0 0) l) × (deeper ≡ openedDepths (getD vs 0 0) l d) → outcome g last deeper (saysApplied 1 false) ≡ started vs l d
+      → (last ≡ opened (getD vs 0 0) l) × (deeper ≡ openedDepths (getD vs 0 0) l d) → outcome g last deeper (saysApplied 1 0 false) ≡ started vs l d
   unfolding started unlessRefusedStart
-  starting z e h = (λ t. outcome (e t) (h .0 t) (h .1 t) (saysApplied 1 false)) ∙ rw z
+  starting z e h = (λ t. outcome (e t) (h .0 t) (h .1 t) (saysApplied 1 0 false)) ∙ rw z
 
   -- what a start that is not refused knows
   record Given : Type 0 where
