@@ -458,6 +458,7 @@ isE (F r q v) = false
 isE (Decision v) = false
 
 -- a message that a step hands over where its entry is sent is an E with that very entry: "A repeated entry is shown to carry the same estimate in every run from a start."
+-- The step hands over nothing else, so the store before it is the store just before the message
 abbrev pub EqualRepeats : Type 0
 EqualRepeats = EveryRun λ vs l d ss. (s : Step) (h : Handed) → In h (handedBy (at vs l d ss) s) → getD (at vs l d ss .store) (placeFor h) 0 ≢ 0
     → (isE (h .message) ≡ true) × (entryHanded h ≡ getD (at vs l d ss .store) (placeFor h) 0)
