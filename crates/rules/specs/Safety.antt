@@ -17,7 +17,7 @@ use Rattle.rules.specs.Limits.{greatestSize, values, mostRecoveries, too
 use Rattle.rules.specs.Tally.{holds, joined, within, bitOf}
 use Rattle.rules.specs.Layout.{processAt, depthAt, Sized, forgetting}
 use Rattle.rules.specs.Records.{Stored, stored, blank}
-use Rattle.rules.specs.Store.{slot, kindE, kindS, kindF, proposerOf, placeOf, entryFor, Handed, sentIn}
+use Rattle.rules.specs.Store.{slot, kindE, kindS, kindF, proposerOf, Handed, placeHanded, entryHanded, sentIn}
 use Rattle.rules.specs.Answers.{Said, allSent, allAgain}
 use Rattle.rules.specs.Kinds.{takerOf, delivers, isCut, entryIn}
 use Rattle.rules.specs.Idle.{inPhase, idle}
@@ -442,14 +442,7 @@ AtMostTwo = (a : State) (s : Step) → (says a s .sent ≡ length (handedBy a s)
 abbrev pub AtMostOne : Type 0
 AtMostOne = EveryRun λ vs l d ss. (s : Step) → length (handedBy (at vs l d ss) s) ≤ 1
 
--- the place of a message that is handed over, and its entry: its proposer and its value
-abbrev pub placeFor : Handed → ℕ
-placeFor h = placeOf (h .sender) (h .message)
-
-abbrev pub entryHanded : Handed → ℕ
-entryHanded h = entryFor (h .sender) (h .message)
-
--- it is an E
+-- a message is an E
 unfoldable pub isE : Message → Bool
 isE Nothing = false
 isE (E r q v) = true
@@ -460,13 +453,13 @@ isE (Decision v) = false
 -- a message that a step hands over where its entry is sent is an E with that very entry: "A repeated entry is shown to carry the same estimate in every run from a start."
 -- The step hands over nothing else, so the store before it is the store just before the message
 abbrev pub EqualRepeats : Type 0
-EqualRepeats = EveryRun λ vs l d ss. (s : Step) (h : Handed) → In h (handedBy (at vs l d ss) s) → getD (at vs l d ss .store) (placeFor h) 0 ≢ 0
-    → (isE (h .message) ≡ true) × (entryHanded h ≡ getD (at vs l d ss .store) (placeFor h) 0)
+EqualRepeats = EveryRun λ vs l d ss. (s : Step) (h : Handed) → In h (handedBy (at vs l d ss) s) → getD (at vs l d ss .store) (placeHanded h) 0 ≢ 0
+    → (isE (h .message) ≡ true) × (entryHanded h ≡ getD (at vs l d ss .store) (placeHanded h) 0)
 
 -- the same said of all that is handed over: where the start or one of the steps ss handed h over, and the next step hands k over at the same place, k is an E, and has the entry of h.
 -- So no S, F or decision is ever handed over twice
 abbrev pub OnlyERepeats : Type 0
-OnlyERepeats = EveryRun λ vs l d ss. (s : Step) (h k : Handed) → In h (handedFrom vs l d ss) → In k (handedBy (at vs l d ss) s) → placeFor h ≡ placeFor k
+OnlyERepeats = EveryRun λ vs l d ss. (s : Step) (h k : Handed) → In h (handedFrom vs l d ss) → In k (handedBy (at vs l d ss) s) → placeHanded h ≡ placeHanded k
     → (isE (k .message) ≡ true) × (entryHanded k ≡ entryHanded h)
 
 -- ---- demand 3, in its words, and all of the above

@@ -74,6 +74,13 @@ pub record Handed : Type 0 where
 abbrev pub handed : ℕ → Message → Handed
 handed i m = record { sender = i; message = m }
 
+-- its place, and its entry: its proposer and its value
+abbrev pub placeHanded : Handed → ℕ
+placeHanded h = placeOf (h .sender) (h .message)
+
+abbrev pub entryHanded : Handed → ℕ
+entryHanded h = entryFor (h .sender) (h .message)
+
 -- by process i with m, where that is a message
 unfoldable pub one : ℕ → Message → List Handed
 one i Nothing = []

@@ -12,7 +12,7 @@ use Rattle.rules.specs.declared.step.Step.the-variants.{DeliverE, Delive
 use Rattle.rules.specs.Limits.{storeLength}
 use Rattle.rules.specs.Tally.{bitOf}
 use Rattle.rules.specs.Layout.{processAt}
-use Rattle.rules.specs.Store.{placeOf, entryFor, Handed}
+use Rattle.rules.specs.Store.{Handed, placeHanded, entryHanded}
 use Rattle.rules.specs.Answers.{Said, saysApplied, saysIdle, saysRefused, isRefused, total, allSent, allAgain}
 use Rattle.rules.specs.Start.{startedTo}
 use Rattle.rules.specs.Step.{stepped}
@@ -130,7 +130,7 @@ sameHanded [] [] = true
 sameHanded [] (e ∷ es) = false
 sameHanded (h ∷ hs) [] = false
 sameHanded (h ∷ hs) (e ∷ es) =
-    (eqb (placeOf (h .sender) (h .message)) (e .place) && eqb (entryFor (h .sender) (h .message)) (e .entry)) && sameHanded hs es
+    (eqb (placeHanded h) (e .place) && eqb (entryHanded h) (e .entry)) && sameHanded hs es
 
 unfoldable pub answered : Asked → List Handed → Bool
 answered anything hs = true

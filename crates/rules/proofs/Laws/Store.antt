@@ -77,7 +77,7 @@ sent-set (x ∷ l) at e zero a b = absurd (omega arith)
 sent-set (x ∷ l) zero e (suc n) a b = omega arith
 sent-set (x ∷ l) (suc at) e (suc n) a b = let ih = sent-set l at e n (omega arith) (omega arith) in omega arith
 
-bit-sent : (e : ℕ) → e ≢ 0 → sentBit e ≡ 1
+pub bit-sent : (e : ℕ) → e ≢ 0 → sentBit e ≡ 1
 bit-sent zero h = absurd (h refl)
 bit-sent (suc e) h = refl
 

@@ -38,7 +38,7 @@ use Rattle.rules.proofs.Agreement.Inv.{Proper}
 use Rattle.rules.proofs.Agreement.Seen.{seen, view, entry-at, record-in}
 use Rattle.rules.proofs.Agreement.Stages.{jumps-by}
 use Rattle.rules.proofs.Agreement.EachStep.{Safe, below-E, below-F, first-phase-S}
-use Rattle.rules.proofs.Runs.Cases.{course-by}
+use Rattle.rules.proofs.Runs.Cases.{never, course-by}
 use Rattle.rules.proofs.Runs.Spoken.{Marked, Spoken}
 
 -- ---- what is fair of an event: at most one message, and one whose entry is sent is an E with that entry
@@ -60,11 +60,11 @@ fair-quiet : (l : List ℕ) (i : ℕ) (p : Process) → Fair l i (quiet p)
 unfolding quiet
 fair-quiet l i p = record { alone = λ a b. a; first = λ a. absurd a; second = λ a. absurd a }
 
-pub fair-crash : (l : List ℕ) (i : ℕ) (p : Process) → Fair l i (onCrash p)
+fair-crash : (l : List ℕ) (i : ℕ) (p : Process) → Fair l i (onCrash p)
 unfolding onCrash
 fair-crash l i p = fair-quiet l i _
 
-pub fair-cut : (l : List ℕ) (i : ℕ) (c : Bool) (x : Next) → Fair l i x → Fair l i (cutIf c x)
+fair-cut : (l : List ℕ) (i : ℕ) (c : Bool) (x : Next) → Fair l i x → Fair l i (cutIf c x)
 unfolding cutIf
 fair-cut l i true x h = fair-crash l i (x .process)
 fair-cut l i false x h = h
@@ -84,10 +84,6 @@ pub record Past (l : List ℕ) (n i : ℕ) (p : Process) : Type 0 where
   -- the E of one round that are sent are one
   pub same : (r j : ℕ) → r ≤ lastRound → 1 ≤ j → j ≤ n → getD l (slot r i kindE) 0 ≢ 0 → getD l (slot r j kindE) 0 ≢ 0
       → getD l (slot r j kindE) 0 ≡ getD l (slot r i kindE) 0
-
--- a test does not both fail and hold
-clash : {A : Type 0} {t : Bool} → t ≡ true → t ≡ false → A
-clash e f = let z : _≡_ {A = ℕ} 0 1 = cc in absurd (omega arith)
 
 -- one sender is a majority of 1 alone
 one-voice : (n j : ℕ) → 1 ≤ j → j ≤ n → meets (joined 0 j) n ≡ true → n ≡ 1
@@ -125,7 +121,7 @@ module _ (l : List ℕ) (n i : ℕ) (p : Process) (h : Past l n i p) where
                   (refl, entry-parts e ∙ sym is ∙ h .same r j le from-low from-high (λ z. sent (here ∙ z)) (λ z. real (sym is ∙ z)) ∙ sym here);
               second = λ a. absurd a;
             }
-        go false first true m = record { alone = λ a b. a; first = λ a. absurd a; second = λ a sent. clash (h .decided sent) free }
+        go false first true m = record { alone = λ a b. a; first = λ a. absurd a; second = λ a sent. never free (h .decided sent) }
         go false first false m = record { alone = λ a b. a; first = λ a. absurd a; second = λ a. absurd a }
 
     fair-E : p .round ≤ r → p .decided ≡ false → Fair l i (onE n i j r (proposerOf e) (valueOf e) p)
@@ -213,12 +209,12 @@ module _ (l : List ℕ) (n i : ℕ) (p : Process) (h : Past l n i p) where
 
   fair-decision : (v : ℕ) → p .decided ≡ false → Fair l i (onDecision v p)
   unfolding onDecision placeOf
-  fair-decision v free = record { alone = λ a b. b; first = λ a sent. clash (h .decided sent) free; second = λ a. absurd a }
+  fair-decision v free = record { alone = λ a b. b; first = λ a sent. never free (h .decided sent); second = λ a. absurd a }
 
   fair-suspect : p .round ≤ lastRound → p .marked ≡ false → Fair l i (onSuspect p)
   unfolding onSuspect placeOf
   fair-suspect le free =
-      record { alone = λ a b. b; first = λ a sent. clash (h .marked (p .round) le sent .mark refl) free; second = λ a. absurd a }
+      record { alone = λ a b. b; first = λ a sent. never free (h .marked (p .round) le sent .mark refl); second = λ a. absurd a }
 
 -- ---- a step that is neither refused nor idle
 
@@ -255,7 +251,7 @@ module _ (g : Group) (l : List ℕ) where
   fair-event (Recover i) h f past = fair-quiet l i _
 
   -- any step
-  pub fair-course : ((i : ℕ) → 1 ≤ i → i ≤ g .n → Past l (g .n) i (processAt g i)) → (s : Step) → FairBy l (course g l s)
+  fair-course : ((i : ℕ) → 1 ≤ i → i ≤ g .n → Past l (g .n) i (processAt g i)) → (s : Step) → FairBy l (course g l s)
   fair-course past s =
       course-by (FairBy l) g l s tt (λ k. tt) (λ h e. fair-crash l (takerOf s) (processAt g (takerOf s)))
       (λ h e.

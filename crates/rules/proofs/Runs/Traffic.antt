@@ -12,12 +12,12 @@ use Rattle.rules.specs.declared.process.Message.the-variants.{Nothing, E
 use Rattle.rules.specs.declared.process.Next.{Next}
 use Rattle.rules.specs.declared.step.Step.{Step}
 use Rattle.rules.specs.Limits.{storeLength}
-use Rattle.rules.specs.Store.{placeOf, entryFor, handOver, Handed, handed, one}
+use Rattle.rules.specs.Store.{placeOf, entryFor, handOver, Handed, handed, placeHanded, entryHanded, one}
 use Rattle.rules.specs.Depths.{depthAfter}
 use Rattle.rules.specs.Start.{firstMessage}
 use Rattle.rules.specs.Step.{Course, Idles, Refuses, Takes, handedOf, handOvers, sentBy, againBy, course, settled, stepped}
 use Rattle.rules.specs.Run.{State, startState, next, after, handedByCourse, handedBy, handedIn, handedFrom}
-use Rattle.rules.specs.Safety.{Begins, at, In, placeFor, entryHanded, isE, SentStays, AtMostTwo, AtMostOne, EqualRepeats, OnlyERepeats}
+use Rattle.rules.specs.Safety.{Begins, at, In, isE, SentStays, AtMostTwo, AtMostOne, EqualRepeats, OnlyERepeats}
 use Rattle.rules.proofs.Bare.Run.{State as Bare}
 use Rattle.rules.proofs.Bare.Step as base
 use Rattle.rules.proofs.Bare.Statements as bare
@@ -119,9 +119,9 @@ module _ (n i : ℕ) (x : Next) (l : List ℕ) (f : Taking n i x) (long : storeL
 
   -- what is handed over is of one of the two places, and stands there then
   record Stands (h : Handed) : Type 0 where
-    entry : getD (handOvers i x l) (placeFor h) 0 ≡ entryHanded h
+    entry : getD (handOvers i x l) (placeHanded h) 0 ≡ entryHanded h
     real : entryHanded h ≢ 0
-    again : getD l (placeFor h) 0 ≢ 0 → (isE (h .message) ≡ true) × (entryHanded h ≡ getD l (placeFor h) 0)
+    again : getD l (placeHanded h) 0 ≢ 0 → (isE (h .message) ≡ true) × (entryHanded h ≡ getD l (placeHanded h) 0)
 
   fair-stands : (h : Handed) → In h (handedOf i x) → Stands h
   unfolding handedOf handOvers
@@ -187,9 +187,9 @@ module _ (vs l d : List ℕ) (ss : List Step) (b : Begins vs l d) where
 
   -- what a step hands over stands in the store after it, and where its entry was sent it is an E with that entry
   record HandedNow (s : Step) (k : Handed) : Type 0 where
-    entry : getD (next a s .store) (placeFor k) 0 ≡ entryHanded k
+    entry : getD (next a s .store) (placeHanded k) 0 ≡ entryHanded k
     real : entryHanded k ≢ 0
-    again : getD (a .store) (placeFor k) 0 ≢ 0 → (isE (k .message) ≡ true) × (entryHanded k ≡ getD (a .store) (placeFor k) 0)
+    again : getD (a .store) (placeHanded k) 0 ≢ 0 → (isE (k .message) ≡ true) × (entryHanded k ≡ getD (a .store) (placeHanded k) 0)
 
   handed-now : (s : Step) (k : Handed) → In k (handedBy a s) → HandedNow s k
   unfolding handedBy handedByCourse next stepped settled
@@ -202,7 +202,7 @@ module _ (vs l d : List ℕ) (ss : List Step) (b : Begins vs l d) where
           let stands = fair-stands (a .group .n) i x (a .store) f (h .basic .long) w k m in
           record {
             entry =
-                ap (λ c. getD (settled (a .group) (a .store) (a .depths) (depthAfter (a .group) (a .depths) s) c .store) (placeFor k) 0) e ∙ stands .entry;
+                ap (λ c. getD (settled (a .group) (a .store) (a .depths) (depthAfter (a .group) (a .depths) s) c .store) (placeHanded k) 0) e ∙ stands .entry;
             real = stands .real;
             again = stands .again;
           }
@@ -225,12 +225,12 @@ stays-after vs l d ss b (t ∷ ts) k sent =
 
 -- what was handed over stands in the store
 record Stood (a : State) (h : Handed) : Type 0 where
-  entry : getD (a .store) (placeFor h) 0 ≡ entryHanded h
+  entry : getD (a .store) (placeHanded h) 0 ≡ entryHanded h
   real : entryHanded h ≢ 0
 
 stood-on : (vs l d : List ℕ) (ss : List Step) → Begins vs l d → (h : Handed) → Stood (at vs l d ss) h → (ts : List Step) → Stood (after (at vs l d ss) ts) h
 stood-on vs l d ss b h k ts =
-    record { entry = stays-after vs l d ss b ts (placeFor h) (λ z. k .real (sym (k .entry) ∙ z)) ∙ k .entry; real = k .real }
+    record { entry = stays-after vs l d ss b ts (placeHanded h) (λ z. k .real (sym (k .entry) ∙ z)) ∙ k .entry; real = k .real }
 
 stood-in : (vs l d : List ℕ) (ss : List Step) → Begins vs l d → (ts : List Step) (h : Handed) → In h (handedIn (at vs l d ss) ts) → Stood (after (at vs l d ss) ts) h
 unfolding after handedIn
@@ -243,7 +243,7 @@ stood-in vs l d ss b (t ∷ ts) h i =
     (⊎-elim
     (λ now.
     let k = handed-now vs l d ss b t h now in
-    on (record { entry = ap (λ (c : State). getD (c .store) (placeFor h) 0) e ∙ k .entry; real = k .real }) ts)
+    on (record { entry = ap (λ (c : State). getD (c .store) (placeHanded h) 0) e ∙ k .entry; real = k .real }) ts)
     (λ then. rest (subst (λ (c : State). In h (handedIn c ts)) (sym e) then))
     (in-cases (handedBy (at vs l d ss) t) i))
 

@@ -1,10 +1,11 @@
 -- `Store::write` meets its contract: the old entry is 0 or it is not. Assumes nothing.
 use Rattle.rules.specs.Depths.{datedIf}
 use Rattle.rules.specs.Store.{sentBit}
+use Rattle.rules.proofs.Laws.Store.{bit-sent}
 use borrow.Author.Tests.{eq-eqb, ne-eqb}
 use lib.Dec.{eqb}
 use lib.ListN.{getD, set}
-use Prim.Native.Nat.{ℕ, zero, suc}
+use Prim.Native.Nat.{ℕ}
 use mathlib.Core.List.{List}
 use mathlib.Core.Path.{_≡_, refl, sym, ap}
 use borrow.Author.Needs.{needs}
@@ -20,12 +21,8 @@ module _ (l d : List ℕ) (at k : ℕ) where
   unfolding datedIf
   first h = rw (eq-eqb (getD l at 0) 0 h)
 
-sent : (e : ℕ) → ¬ (e ≡ 0) → sentBit e ≡ 1
-sent zero h = absurd (h refl)
-sent (suc e) h = refl
-
 returns : tie.Need-returns
-returns c = (refl, kept (c .before .before .args .store .now) (c .before .before .args .depths .now) (c .before .before .args .at) (c .before .before .args .depth) (c .if1 .taken), sym (sent _ (c .if1 .taken)))
+returns c = (refl, kept (c .before .before .args .store .now) (c .before .before .args .depths .now) (c .before .before .args .at) (c .before .before .args .depth) (c .if1 .taken), sym (bit-sent _ (c .if1 .taken)))
 
 returns-2 : tie.Need-returns-2
 returns-2 c = (refl, first (c .before .before .args .store .now) (c .before .before .args .depths .now) (c .before .before .args .at) (c .before .before .args .depth) (c .if1 .left), sym (ap sentBit (c .if1 .left)))
