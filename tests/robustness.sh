@@ -2,15 +2,16 @@
 # What the programs do with bad input and output: nothing hangs and nothing is half said unnoticed.
 # `model run` is the program itself, `model report`, `model sweep` and `model steps` are what one uses.
 # What each gives:
-#   closed, write-only or folder as standard input   taken as an empty file: BAD 9 1 (model: status 1)
+#   closed, write-only or folder as standard input   taken as an empty file: BAD 9 1 1 (model: status 1)
 #   closed or full standard output, a file cut off   the program ends with status 0 and does not see it;
 #     by the size limit                              model says it on standard error and ends with 2
 #   a pipe with one byte at a time, or in two halves the whole report, as from a file
-#   100 MB, input without end                        BAD 10 0 at once, without reading it all
-#   NUL bytes                                        BAD 9 with the line
+#   100 MB, input without end                        BAD 10 0 0 at once, without reading it all
+#   NUL bytes                                        BAD 9 with the line and the column
 #   sweep: missing, folder, no permission, no name   "NAME: cannot be read", and the next files are answered;
 #                                                    model says why on standard error, and ends with 2
-#   BAD files                                        named with that line, and status 1
+#   BAD files                                        named with that line, and status 1; on a terminal model
+#                                                    shows the line too, with a mark under the column
 #   a program that is missing, stale or truncated    built, which is said in a few lines; a stand-in for the
 #                                                    toolchain is used here, so that nothing is proved
 set -u
@@ -54,11 +55,11 @@ one_byte_at_a_time() {
 }
 
 # Standard input
-try "$model" run report <&-;            check "report, standard input closed" '*' 'BAD 9 1'
-try "$model" report <&-;                check "model report, standard input closed" 1 'BAD 9 1'
-try "$model" run report < "$work";      check "report, a folder as standard input" '*' 'BAD 9 1'
-try "$model" run report 0> /dev/null;   check "report, standard input open for writing only" '*' 'BAD 9 1'
-try "$model" report < /dev/null;        check "model report, empty standard input" 1 'BAD 9 1'
+try "$model" run report <&-;            check "report, standard input closed" '*' 'BAD 9 1 1'
+try "$model" report <&-;                check "model report, standard input closed" 1 'BAD 9 1 1'
+try "$model" run report < "$work";      check "report, a folder as standard input" '*' 'BAD 9 1 1'
+try "$model" run report 0> /dev/null;   check "report, standard input open for writing only" '*' 'BAD 9 1 1'
+try "$model" report < /dev/null;        check "model report, empty standard input" 1 'BAD 9 1 1'
 one_byte_at_a_time "$example" | { try "$model" run report; echo "$status" > status; }
 status=$(cat status);                   check "report, one byte at a time" 0 "$expected"
 one_byte_at_a_time "$example" | { try "$model" report; echo "$status" > status; }
@@ -83,29 +84,29 @@ PROCESSES 1
 try "$model" run report < greatest;     check "report, $(stat -c %s greatest) bytes" 0 "$all_refused"
 { head -c 40001 greatest; sleep 0.3; tail -c +40002 greatest; } | { try "$model" run report; echo "$status" > status; }
 status=$(cat status);                   check "report, the same in two halves with a rest between" 0 "$all_refused"
-try "$model" run report < just_too_long; check "report, one byte more" '*' 'BAD 10 0'
+try "$model" run report < just_too_long; check "report, one byte more" '*' 'BAD 10 0 0'
 
 # Too much input
 head -c 100000000 /dev/zero | { try "$model" run report; echo "$status" > status; }
-status=$(cat status);                   check "report, 100 MB of NUL" '*' 'BAD 10 0'
+status=$(cat status);                   check "report, 100 MB of NUL" '*' 'BAD 10 0 0'
 { cat "$example"; head -c 100000000 /dev/zero | tr '\0' '\n'; } 2> /dev/null | { try "$model" report; echo "$status" > status; }
-status=$(cat status);                   check "model report, a schedule and 100 MB of line ends" 1 'BAD 10 0'
-try "$model" run report < /dev/zero;    check "report, input without end" '*' 'BAD 10 0'
+status=$(cat status);                   check "model report, a schedule and 100 MB of line ends" 1 'BAD 10 0 0'
+try "$model" run report < /dev/zero;    check "report, input without end" '*' 'BAD 10 0 0'
 truncate -s 100M large
 try "$model" run sweep large "$example"; check "sweep, a file of 100 MB and a good one" 0 "large
-BAD 10 0
+BAD 10 0 0
 $example
 $expected"
 
 # NUL bytes
 printf '\0' > nul
-try "$model" run report < nul;          check "report, one NUL" '*' 'BAD 9 1'
+try "$model" run report < nul;          check "report, one NUL" '*' 'BAD 9 1 1'
 { cat "$example"; printf '\0'; } > nul
-try "$model" run report < nul;          check "report, a NUL after the end" '*' 'BAD 9 12'
+try "$model" run report < nul;          check "report, a NUL after the end" '*' 'BAD 9 12 1'
 sed 's/^9$/9\x00/' "$example" > nul
-try "$model" run report < nul;          check "report, a NUL in a value" '*' 'BAD 9 3'
+try "$model" run report < nul;          check "report, a NUL in a value" '*' 'BAD 9 3 2'
 sed 's/^E 3 2 1$/E 3 2\x001/' "$example" > nul
-try "$model" report < nul;              check "model report, a NUL for a space" 1 'BAD 9 10'
+try "$model" report < nul;              check "model report, a NUL for a space" 1 'BAD 9 10 6'
 
 # Standard output
 : > out
@@ -164,21 +165,21 @@ $bars"
 printf 'VALUES 1\n7\nWARMUP 0\nMEASURED 1\nQ 2\n' > undecided
 try "$model" steps undecided;                               check "model steps, a run in which nobody decides" 0 'no process decided'
 printf '\0' > nul
-try "$model" steps nul;                                     check "model steps, a BAD file" 1 'nul: BAD 9 1
+try "$model" steps nul;                                     check "model steps, a BAD file" 1 'nul: BAD 9 1 1
 no process decided'
 try "$model" steps folder missing '' nul 'a name with spaces' undecided
 check "model steps, a folder, a missing file, an empty name, a BAD file, a name with spaces" 2 "folder: cannot be read
 missing: cannot be read
 : cannot be read
-nul: BAD 9 1
+nul: BAD 9 1 1
 a name with spaces  process 2  value 7  depth 2
 a name with spaces  process 3  value 7  depth 3
 $bars"
-cp "$example" 'BAD 9 1'
+cp "$example" 'BAD 9 1 1'
 cp "$example" 'x: cannot be read'
-try "$model" steps 'BAD 9 1' x 'x: cannot be read'
-check "model steps, names like the lines of an answer" 2 'BAD 9 1            process 2  value 7  depth 2
-BAD 9 1            process 3  value 7  depth 3
+try "$model" steps 'BAD 9 1 1' x 'x: cannot be read'
+check "model steps, names like the lines of an answer" 2 'BAD 9 1 1          process 2  value 7  depth 2
+BAD 9 1 1          process 3  value 7  depth 3
 x: cannot be read
 x: cannot be read  process 2  value 7  depth 2
 x: cannot be read  process 3  value 7  depth 3
@@ -250,13 +251,13 @@ quiet_but() { [ "$(wc -l < err)" -le "$1" ] || echo "standard error has $(wc -l 
 
 # One rule for the status: 1 for a BAD file, 2 for one that cannot be read
 try "$model" sweep nul "$example";                          check "model sweep, a BAD file and a good one" 1 "nul
-BAD 9 1
+BAD 9 1 1
 $example
 $expected"
 try "$model" sweep nul missing folder '' "$example"
 said 'missing: there is no such file' 'folder: is a folder'
 check "model sweep, files that cannot be read, and why" 2 "nul
-BAD 9 1
+BAD 9 1 1
 missing: cannot be read
 folder: cannot be read
 : cannot be read
@@ -303,7 +304,8 @@ try "$model" report one five; said 'report takes one file'; check "model report,
 try "$model" frobnicate; said 'there is no word frobnicate'; check "model, a word that it has not" 2 ''
 try "$model" compare 0 1; said '0 is no count';             check "model compare, a count of 0" 2 ''
 try "$model" compare 5 1 --error none; said 'knows no error none'; check "model compare, an error that it has not" 2 ''
-for error in again-not-counted cut-counts first-counts-as-again again-after-writing sent-without-repeats; do
+columns='column-one-too-small column-of-the-number column-0-for-a-missing-line count-at-the-line end-at-the-last-byte'
+for error in again-not-counted cut-counts first-counts-as-again again-after-writing sent-without-repeats $columns; do
   try "$model" compare 0 1 --error $error; said '0 is no count'; check "model compare, the error $error is known" 2 ''
 done
 # Help and version
@@ -319,21 +321,146 @@ for word in sweep steps; do
   quiet_but 0
   check "model $word, a reader that goes away" 0 "$([ $word = sweep ] && echo "$example" || echo "$example  process 2  value 7  depth 2")"
 done
-# What is wrong with a file, where standard error is a terminal
+# Columns: in the greatest line of the form, in a line as long as a file, and ahead of a missing LF
+printf 'VALUES 1\n7\nWARMUP 1\nE 4294967295 4294967295 4294967295 X' > far
+try "$model" report far;                                    check "model report, the file ends inside the longest line" 1 'BAD 9 4 37'
+printf 'X\nMEASURED 0\n' >> far
+try "$model" report far;                                    check "model report, a letter behind the longest line" 1 'BAD 9 4 37'
+{ printf 'VALUES 1\n'; head -c 65526 /dev/zero | tr '\0' 7; } > long_line
+try "$model" report long_line;                              check "model report, a number of 65,526 digits" 1 'BAD 9 2 10'
+head -c 65535 /dev/zero | tr '\0' ' ' > blank
+try "$model" report blank;                                  check "model report, 65,535 spaces" 1 'BAD 9 1 1'
+head -c -2 "$example" > open_end
+try "$model" report open_end;                               check "model report, the last number is missing" 1 'BAD 9 11 5'
+printf ' 2' >> open_end
+try "$model" report open_end;                               check "model report, two spaces and no LF" 1 'BAD 9 11 5'
+# What is wrong with a file, where standard error is a terminal, and the line with a mark under the column
 printf 'VALUES 1\r\n7\r\n' > crlf
 printf 'VALUES 1\n7\nWARMUP 0\n' > short
 printf 'VALUES 1\n7\nWARMUP 0\nMEASURED 0' > open_end
 printf 'VALUES 17\n' > many_values
+printf 'VALUES 1\n7\nWARMUP 9999\n' > many_steps
+printf 'VALUES 1\n7\nWARMUP 1\nE\t1 1 0\n' > tab
+printf 'VALUES 1\n7\nWARMUP 1\nE 1  1 0\n' > spaces
+printf 'VALUES 1\n7\nWARMUP 1\nE 1 1 0 \n' > space_behind
+printf 'VALUES 1\n7\nWARMUP 1\nE 1 1\n' > number_missing
+printf 'VALUES 1\n7\nWARMUP 1\nP 1 X\n' > cut_of_a_pause
+printf 'VALUES 1\n07\n' > leading_zero
+printf 'VALUES 2\n7\nWARMUP 0\n' > value_missing
+printf 'VALUES 1\n7\n9\n' > value_more
+printf 'VALUES 1\n\n7\n' > empty_line
+printf 'VALUES 1\n7\nWARMUP 0\nMEASURED 1\nX\n' > no_step
+printf 'VALUES 1\n7\nWARMUP 1\nQ 1\nMEASURED 0\n\n' > line_behind
+printf 'VALUES 1\n7\nWARMUP 1\nE 1 \303\244 \033[31m\0\177\n' > odd_bytes
+# on_a_terminal ARGUMENT..: model with standard output and standard error on a terminal, into the file out.
+on_a_terminal() { timeout 10 script -qec "'$model' $*" /dev/null < /dev/null | tr -d '\r' > out; status=${PIPESTATUS[0]}; }
+# shown NAME 'BAD ..' PHRASE [TEXT MARK]: what report, sweep and steps say of the file on a terminal.
+shown() {
+  local number line column hint=$1 word
+  read -r number line column <<< "${2#BAD }"
+  [ "$line" = 0 ] || hint+=:$line:$column
+  hint+=": $3; see docs/FORMAT.md"
+  [ $# -eq 3 ] || hint+=$'\n'"    $4"$'\n'"    $5"
+  on_a_terminal report "$1"; check "model report, on a terminal: $1" 1 "$2
+$hint"
+  on_a_terminal sweep "$1";  check "model sweep, on a terminal: $1" 1 "$1
+$2
+$hint"
+  on_a_terminal steps "$1";  check "model steps, on a terminal: $1" 1 "$1: $2
+no process decided
+$hint"
+}
 if command -v script > /dev/null; then
-  for pair in 'crlf:1: this line ends in CR LF' 'short:4: this line is missing' 'open_end:4: the last line does not end in LF' 'many_values:1: there must be 1 to 16 values'; do
-    for word in report sweep steps; do
-      timeout 10 script -qec "'$model' $word ${pair%%:*}" /dev/null < /dev/null > said; status=$?
-      grep -qF "$pair; see docs/FORMAT.md" said && echo hint > out || cat said > out
-      check "model $word, on a terminal: $pair" 1 hint
-    done
-  done
+  between='one space stands between two words, and none before or behind them'
+  shown crlf           'BAD 9 1 9'  'this line ends in CR LF' \
+    'VALUES 1?' \
+    '        ^'
+  shown short          'BAD 9 4 1'  'this line is missing'
+  shown open_end       'BAD 9 4 11' 'the last line does not end in LF' \
+    'MEASURED 0' \
+    '          ^'
+  shown many_values    'BAD 1 1 8'  'there must be 1 to 16 values' \
+    'VALUES 17' \
+    '       ^'
+  shown many_steps     'BAD 10 3 8' 'this count takes the steps above 4,096' \
+    'WARMUP 9999' \
+    '       ^'
+  shown just_too_long  'BAD 10 0 0' 'the file has more than 65,535 bytes'
+  shown tab            'BAD 9 4 2'  'there is a tab in this line' \
+    'E?1 1 0' \
+    ' ^'
+  shown spaces         'BAD 9 4 5'  "$between" \
+    'E 1  1 0' \
+    '    ^'
+  shown space_behind   'BAD 9 4 9'  "$between" \
+    'E 1 1 0 ' \
+    '        ^'
+  shown number_missing 'BAD 9 4 6'  'this line ends too early' \
+    'E 1 1' \
+    '     ^'
+  shown cut_of_a_pause 'BAD 9 4 4'  'only E, S, F, Z and Q can be cut' \
+    'P 1 X' \
+    '   ^'
+  shown leading_zero   'BAD 9 2 2'  'a number has no leading zeros' \
+    '07' \
+    ' ^'
+  shown value_missing  'BAD 9 3 1'  'this line should be a value' \
+    'WARMUP 0' \
+    '^'
+  shown value_more     'BAD 9 3 1'  'this line should be the WARMUP line' \
+    '9' \
+    '^'
+  shown empty_line     'BAD 9 2 1'  'this line is empty' \
+    '' \
+    '^'
+  shown no_step        'BAD 9 5 1'  'this line should be a step' \
+    'X' \
+    '^'
+  shown line_behind    'BAD 9 6 1'  'nothing follows the last step' \
+    '' \
+    '^'
+  shown odd_bytes      'BAD 9 4 5'  'this line breaks the form' \
+    'E 1 ?? ?[31m??' \
+    '    ^'
+  shown far            'BAD 9 4 37' 'this line breaks the form' \
+    'E 4294967295 4294967295 4294967295 XX' \
+    '                                    ^'
+  shown long_line      'BAD 9 2 10' 'this number is above 4,294,967,295' \
+    "$(printf '7%.0s' {1..77}) .." \
+    '         ^'
+  # Standard input, and two files
+  mark='    E?1 1 0
+     ^'
+  on_a_terminal report '< tab'
+  check "model report, on a terminal: standard input" 1 "BAD 9 4 2
+standard input:4:2: there is a tab in this line; see docs/FORMAT.md
+$mark"
+  on_a_terminal sweep '- < tab'
+  check "model sweep, on a terminal: standard input" 1 "/dev/stdin
+BAD 9 4 2
+/dev/stdin:4:2: there is a tab in this line; see docs/FORMAT.md
+$mark"
+  cp tab ./-tab
+  on_a_terminal report '-- -tab'
+  check "model report, on a terminal: a name that begins with -" 1 "BAD 9 4 2
+-tab:4:2: there is a tab in this line; see docs/FORMAT.md
+$mark"
+  on_a_terminal steps 'short one tab'
+  sed -n '/short:4:1/,$p' out > part && mv part out
+  check "model steps, on a terminal: two BAD files" 1 "short:4:1: this line is missing; see docs/FORMAT.md
+tab:4:2: there is a tab in this line; see docs/FORMAT.md
+$mark"
+  on_a_terminal report 'tab > part'
+  { cat part; cat out; } > both && mv both out
+  check "model report, standard error alone on a terminal" 1 "BAD 9 4 2
+tab:4:2: there is a tab in this line; see docs/FORMAT.md
+$mark"
 fi
-try "$model" report crlf; quiet_but 0;                      check "model report, not on a terminal" 1 'BAD 9 1'
+try "$model" report crlf; quiet_but 0;                      check "model report, not on a terminal" 1 'BAD 9 1 9'
+for word in sweep steps; do
+  try "$model" $word tab; quiet_but 0
+  check "model $word, not on a terminal" 1 "$([ $word = sweep ] && printf 'tab\nBAD 9 4 2' || printf 'tab: BAD 9 4 2\nno process decided')"
+done
 
 # compare says what it does, and leaves nothing behind where it is stopped
 if command -v rustc > /dev/null; then
@@ -341,6 +468,10 @@ if command -v rustc > /dev/null; then
   TMPDIR=$work/temporary timeout 60 "$model" compare 5 1 > out 2> err; status=$?
   said 'generating 5 schedules'
   tail -n 1 out > part && cat err > /dev/null && mv part out; check "model compare" 0 '5 passed, 0 failed'
+  for error in $columns; do
+    TMPDIR=$work/temporary timeout 60 "$model" compare 200 1 --error $error > out 2> err; status=$?
+    grep -q '^first difference' out && echo caught > out;   check "model compare, the error $error" 1 caught
+  done
   (TMPDIR=$work/temporary exec "$model" compare 200000 1 > /dev/null 2> err) &
   pid=$!
   for ((i = 0; i < 100; i++)); do grep -q generating err && break; sleep 0.05; done

@@ -1,7 +1,7 @@
 // Schedule files to hold two programs against each other, repeatable from a seed: walks that
 // deliver what is really in the store, plans that reach the last round, walks past the greatest
-// number of recoveries, walks in which depths differ, and files damaged in every place of the form.
-// The walks run on the rules of this folder, always without an error.
+// number of recoveries, walks in which depths differ, and files damaged in every place of the form and
+// at every column. The walks run on the rules of this folder, always without an error.
 
 use crate::rules::{coordinator, majority, Group, Message, Step, MOST_RECOVERIES};
 use crate::schedule::Schedule;
@@ -870,17 +870,156 @@ fn damaged_byte(which: u64) -> (Vec<u8>, String) {
     unreachable!("the number is below the sum")
 }
 
+/// A sound file with lines of every form: all letters, cut or not, and numbers of one to ten digits.
+fn any_form(chance: &mut Chance) -> Schedule {
+    let number = |chance: &mut Chance| match chance.below(8) {
+        0 => chance.pick(&ODD_NUMBERS),
+        1 => chance.next() as u32 >> chance.below(32),
+        _ => chance.below(20) as u32,
+    };
+    let values: Vec<u32> = (0..chance.between(1, 4)).map(|_| number(chance)).collect();
+    let mut steps = || -> Vec<Step> {
+        let length = chance.between(1, 6);
+        (0..length)
+            .map(|_| {
+                let (who, from, round, cut) = (number(chance), number(chance), number(chance), chance.percent(40));
+                match chance.below(8) {
+                    0 => Step::Deliver { to: who, message: Message::E { round, from }, cut },
+                    1 => Step::Deliver { to: who, message: Message::S { round, from }, cut },
+                    2 => Step::Deliver { to: who, message: Message::F { round, from }, cut },
+                    3 => Step::Deliver { to: who, message: Message::Decision { from }, cut },
+                    4 => Step::Suspect { who, cut },
+                    5 => Step::Pause { who },
+                    6 => Step::Crash { who },
+                    _ => Step::Recover { who },
+                }
+            })
+            .collect()
+    };
+    let (warmup, measured) = (steps(), steps());
+    Schedule { values, warmup, measured }
+}
+
+const COLUMN_DAMAGES: [&str; 13] = [
+    "file_ends", "byte_changed", "byte_inserted", "byte_removed", "two_bytes_changed", "number", "line_end", "space", "line_start", "count",
+    "section_word", "whole_line", "behind_the_end",
+];
+
+const NUMBERS: [&str; 30] = [
+    "", "0", "00", "01", "007", "04294967295", "429496729", "429496730", "4294967295", "4294967296", "4294967299", "4294967300", "4300000000",
+    "42949672949", "42949672950", "42949672960", "5000000000", "9999999999", "10000000000", "18446744073709551616", "99999999999999999999",
+    "-1", "+1", "1.5", "1e3", "0x1", "1_0", "1,0", "X", "1X",
+];
+
+const LINE_ENDS: [&[u8]; 22] = [
+    b"", b" ", b"\r\n", b" \n", b"  \n", b"\t\n", b" X\n", b"  X\n", b" X \n", b" X\r\n", b" XX\n", b" X X\n", b" Y\n", b" x\n", b"X\n", b" 1\n",
+    b" 0 X\n", b" X 0\n", b"\0\n", b"\xff\n", b"\n\n", b"0000000000\n",
+];
+
+const SPACES: [&[u8]; 11] = [b"", b"  ", b"\t", b"\0", b"\n", b"\r\n", b" \t", b"_", b",", b"\xff", b"\xc2\xa0"];
+
+const LINE_STARTS: [&[u8]; 14] =
+    [b" ", b"\t", b"\0", b"\xff", b"\xef\xbb\xbf", b"#", b"-", b"+", b"0", b"X ", b"E ", b"VALUES ", b"\n", b"\r"];
+
+const COUNTS: [&str; 14] =
+    ["0", "1", "16", "17", "99", "4095", "4096", "4097", "4294967295", "4294967296", "42949672950", "00", "017", "04097"];
+
+const BEHIND_THE_END: [&[u8]; 12] =
+    [b"\n", b"\r\n", b" ", b"\t", b"E", b"E 1 1 0\n", b"R 1", b"\0", b"\xff", b"MEASURED 0\n", b"0\n", b"X\n"];
+
+/// A file of any form, damaged at any column of one of its lines: the damages in turn, the rest by chance.
+fn damaged_column(turn: usize, chance: &mut Chance) -> (String, Vec<u8>) {
+    let damage = COLUMN_DAMAGES[turn % COLUMN_DAMAGES.len()];
+    let schedule = any_form(chance);
+    let lines: Vec<Line> = schedule.text().split_inclusive('\n').map(|line| line.as_bytes().to_vec()).collect();
+    let sections = [0, schedule.values.len() + 1, schedule.values.len() + schedule.warmup.len() + 2];
+    // The section lines are few, and some damages are of them alone.
+    let of_a_section = matches!(damage, "count" | "section_word") || chance.percent(35);
+    let at = if of_a_section { chance.pick(&sections) } else { chance.below(lines.len() as u64) as usize };
+    let mut line = lines[at].clone();
+    let place = chance.below(line.len() as u64) as usize;
+    let places = |wanted: &dyn Fn(usize) -> bool| -> Vec<usize> { (0..lines[at].len()).filter(|place| wanted(*place)).collect() };
+    let is_digit = |place: usize| lines[at][place].is_ascii_digit();
+    // Where the numbers of the line begin.
+    let numbers = places(&|place| is_digit(place) && (place == 0 || !is_digit(place - 1)));
+    let end_of = |number: usize| (number..lines[at].len()).find(|place| !is_digit(*place)).unwrap_or(lines[at].len());
+    let odd_byte = |chance: &mut Chance| match chance.below(4) {
+        0 => chance.pick(&[0, 255]),
+        1 => chance.next() as u8,
+        _ => chance.pick(&BYTES),
+    };
+    match damage {
+        "byte_changed" => line[place] = odd_byte(chance),
+        "byte_inserted" => line.insert(place, odd_byte(chance)),
+        "byte_removed" => drop(line.remove(place)),
+        "two_bytes_changed" => {
+            for place in [place, chance.below(line.len() as u64) as usize] {
+                line[place] = odd_byte(chance);
+            }
+        }
+        "number" => {
+            let number = chance.pick(&numbers);
+            drop(line.splice(number..end_of(number), chance.pick(&NUMBERS).bytes()));
+        }
+        "line_end" => drop(line.splice(line.len() - 1.., chance.pick(&LINE_ENDS).iter().copied())),
+        "space" => {
+            let spaces = places(&|place| lines[at][place] == b' ');
+            if !spaces.is_empty() {
+                let space = chance.pick(&spaces);
+                drop(line.splice(space..space + 1, chance.pick(&SPACES).iter().copied()));
+            }
+        }
+        "line_start" => drop(line.splice(..0, chance.pick(&LINE_STARTS).iter().copied())),
+        "count" => {
+            let behind: [&[u8]; 7] = [b"\n", b"\n", b"\n", b" \n", b"x\n", b"\r\n", b""];
+            drop(line.splice(numbers[0].., [chance.pick(&COUNTS).as_bytes(), chance.pick(&behind)].concat()));
+        }
+        "section_word" => {
+            let letter = chance.below(numbers[0] as u64) as usize;
+            match chance.below(5) {
+                0 => line[letter] = chance.pick(b"VALUESWARMUPD 0"),
+                1 => line[letter] ^= 0x20,
+                2 => line.insert(letter, line[letter]),
+                3 => drop(line.splice(letter..numbers[0] - 1, [])),
+                _ => drop(line.splice(..numbers[0] - 1, chance.pick(&["VALUES", "WARMUP", "MEASURED", "VALUE", "E"]).bytes())),
+            }
+        }
+        _ => {}
+    }
+    if damage == "whole_line" {
+        match chance.below(4) {
+            0 => line.clear(),
+            1 => line = [&line[..], &line].concat(),
+            2 => line = b"\n".to_vec(),
+            _ => line = lines[chance.below(lines.len() as u64) as usize].clone(),
+        }
+    }
+    let bytes = if damage == "behind_the_end" {
+        [lines.concat(), chance.pick(&BEHIND_THE_END).to_vec()].concat()
+    } else if damage == "file_ends" || chance.percent(20) {
+        // One file in five ends inside the damaged line.
+        [lines[..at].concat(), line[..chance.below(line.len() as u64 + 1) as usize].to_vec()].concat()
+    } else {
+        [lines[..at].concat(), line, lines[at + 1..].concat()].concat()
+    };
+    (format!("column_{}", damage), bytes)
+}
+
 /// File number `index` of a seed: its kind and its bytes.
 pub fn file(index: u64, seed: u64) -> (String, Vec<u8>) {
     let mut owned = Chance::new(seed, index);
     let chance = &mut owned;
-    // Every fourth file has a damaged byte, every twentieth a damaged line and every fortieth is
-    // damaged as a whole, all damages in turn; every two-hundredth walks to the greatest number of
-    // recoveries, and every hundredth is about depths; the others have their shares.
+    // Every sixth file is damaged at a column, every twelfth has a damaged byte, every twentieth a damaged
+    // line and every fortieth is damaged as a whole, all damages in turn, of the damaged bytes one in three
+    // (seeds 1, 5 and 9 together have all); every two-hundredth walks to the greatest number of recoveries,
+    // and every hundredth is about depths; the others have their shares.
     let turn = index.wrapping_add(seed.wrapping_mul(7_919));
-    if index % 4 == 0 {
+    if index % 12 == 0 {
         let (bytes, way) = damaged_byte(turn / 4);
         return (format!("byte_{}", way), bytes);
+    }
+    if index % 4 == 0 {
+        return damaged_column((index / 6).wrapping_add(seed) as usize, chance);
     }
     if index % 20 == 1 {
         return damaged_line_in_turn((turn / 20) as usize, chance);

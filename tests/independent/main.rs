@@ -1,6 +1,6 @@
-// An implementation of document 01 and requests 2026-03, 2026-05 and 2026-06 that shares nothing with the
-// proved one, to hold the two against each other: it answers schedule files, makes them, and compares
-// two sets of answers. Standard library only; the rules are in rules.rs, the file form in schedule.rs.
+// An implementation of document 01 and requests 2026-01, 2026-03, 2026-05 and 2026-06 that shares nothing
+// with the proved one, to hold the two against each other: it answers schedule files, makes them, and
+// compares two sets of answers. Standard library only; the rules are in rules.rs, the file form in schedule.rs.
 
 mod choose;
 mod generate;
@@ -28,7 +28,9 @@ independent choose DIR OUT            choose, shorten and name files of DIR for 
                                       recovery-not-counted-after-a-pause, recoveries-lost-at-a-crash,
                                       depth-before-the-step, repeats-deepen, cut-loses-depth,
                                       idle-deepens, depth-of-the-undecided, again-not-counted, cut-counts,
-                                      first-counts-as-again, again-after-writing, sent-without-repeats
+                                      first-counts-as-again, again-after-writing, sent-without-repeats,
+                                      column-one-too-small, column-of-the-number,
+                                      column-0-for-a-missing-line, count-at-the-line, end-at-the-last-byte
 ";
 
 type Failure = String;

@@ -20,8 +20,8 @@ pub fn coordinator(round: u32, n: u32) -> u32 {
     round % n + 1
 }
 
-/// Document 01's "errors that look right", two about the number of recoveries, five about depths and
-/// five about what is sent again: one of them can be switched on.
+/// Document 01's "errors that look right", two about the number of recoveries, five about depths, five
+/// about what is sent again and five about the columns of faulty files: one of them can be switched on.
 #[derive(Clone, Copy, PartialEq, Eq, Debug)]
 pub enum Error {
     CountsReceptions,
@@ -41,9 +41,14 @@ pub enum Error {
     FirstCountsAsAgain,
     AgainAfterWriting,
     SentWithoutRepeats,
+    ColumnOneTooSmall,
+    ColumnOfTheNumber,
+    Column0ForAMissingLine,
+    CountAtTheLine,
+    EndAtTheLastByte,
 }
 
-pub const ERRORS: [(&str, Error); 17] = [
+pub const ERRORS: [(&str, Error); 22] = [
     ("counts-receptions", Error::CountsReceptions),
     ("back-in-phase-1", Error::BackInPhase1),
     ("hands-over-before-storing", Error::HandsOverBeforeStoring),
@@ -61,6 +66,11 @@ pub const ERRORS: [(&str, Error); 17] = [
     ("first-counts-as-again", Error::FirstCountsAsAgain),
     ("again-after-writing", Error::AgainAfterWriting),
     ("sent-without-repeats", Error::SentWithoutRepeats),
+    ("column-one-too-small", Error::ColumnOneTooSmall),
+    ("column-of-the-number", Error::ColumnOfTheNumber),
+    ("column-0-for-a-missing-line", Error::Column0ForAMissingLine),
+    ("count-at-the-line", Error::CountAtTheLine),
+    ("end-at-the-last-byte", Error::EndAtTheLastByte),
 ];
 
 #[derive(Clone, Copy, PartialEq, Eq, Debug)]

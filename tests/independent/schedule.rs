@@ -1,7 +1,7 @@
-// The schedule file and the report of document 01, with the number of recoveries of request
-// 2026-03, what is sent again of request 2026-05 and the depths of request 2026-06: reading a file into
-// lists of steps, running them with a watch on safety, on what is sent and on depths, and writing the
-// report as text.
+// The schedule file and the report of document 01, with the columns of request 2026-01, the number of
+// recoveries of request 2026-03, what is sent again of request 2026-05 and the depths of request 2026-06:
+// reading a file into lists of steps, finding the column of a fault, running the steps with a watch on
+// safety, on what is sent and on depths, and writing the report as text.
 
 use crate::rules::{Error, Estimate, Group, Message, Outcome, Step, Stored, Told, GREATEST_DEPTH, GREATEST_GROUP, MOST_RECOVERIES};
 use std::collections::{BTreeMap, BTreeSet};
@@ -17,10 +17,22 @@ pub struct Schedule {
     pub measured: Vec<Step>,
 }
 
+/// What is asked for at a place of the file.
+#[derive(Clone, Copy, PartialEq, Eq, Debug)]
+enum Form {
+    Section(&'static str),
+    Value,
+    Step,
+    Nothing,
+}
+
+/// The first fault of a file, as the reader meets it: the refusal's number, the line and what was asked
+/// for there. Its column is looked for afterwards.
 #[derive(Clone, Copy, PartialEq, Eq, Debug)]
 pub struct Fault {
     pub number: u32,
     pub line: usize,
+    asked: Form,
 }
 
 impl Schedule {
@@ -55,40 +67,50 @@ struct Lines<'a> {
     ended: Vec<&'a [u8]>,
     rest: &'a [u8],
     taken: usize,
+    asked: Form,
 }
 
 impl<'a> Lines<'a> {
     fn new(bytes: &'a [u8]) -> Lines<'a> {
         let mut ended: Vec<&[u8]> = bytes.split(|b| *b == b'\n').collect();
         let rest = ended.pop().unwrap_or(&[]);
-        Lines { ended, rest, taken: 0 }
+        Lines { ended, rest, taken: 0, asked: Form::Nothing }
     }
 
     fn bad(&self, number: u32) -> Fault {
-        Fault { number, line: self.taken }
+        Fault { number, line: self.taken, asked: self.asked }
     }
 
     /// The words of the next line; refusal 9 where it is missing, has no LF or is no text.
-    fn next(&mut self) -> Result<Vec<&'a str>, Fault> {
+    fn next(&mut self, asked: Form) -> Result<Vec<&'a str>, Fault> {
+        self.asked = asked;
         self.taken += 1;
         let line = self.ended.get(self.taken - 1).ok_or(self.bad(9))?;
         let line = std::str::from_utf8(line).map_err(|_| self.bad(9))?;
         Ok(line.split(' ').collect())
     }
 
-    fn section(&mut self, word: &str) -> Result<u32, Fault> {
-        match self.next()?[..] {
+    fn section(&mut self, word: &'static str) -> Result<u32, Fault> {
+        match self.next(Form::Section(word))?[..] {
             [found, count] if found == word => decimal(count).ok_or(self.bad(9)),
             _ => Err(self.bad(9)),
         }
     }
 
+    fn value(&mut self) -> Result<u32, Fault> {
+        match self.next(Form::Value)?[..] {
+            [word] => decimal(word).ok_or(self.bad(9)),
+            _ => Err(self.bad(9)),
+        }
+    }
+
     fn steps(&mut self, count: u32) -> Result<Vec<Step>, Fault> {
-        (0..count).map(|_| self.next().and_then(|words| step(&words).ok_or(self.bad(9)))).collect()
+        (0..count).map(|_| self.next(Form::Step).and_then(|words| step(&words).ok_or(self.bad(9)))).collect()
     }
 
     fn end(&mut self) -> Result<(), Fault> {
         let nothing_left = self.taken == self.ended.len() && self.rest.is_empty();
+        self.asked = Form::Nothing;
         self.taken += 1;
         if nothing_left { Ok(()) } else { Err(self.bad(9)) }
     }
@@ -116,20 +138,14 @@ fn step(words: &[&str]) -> Option<Step> {
 
 pub fn read(bytes: &[u8]) -> Result<Schedule, Fault> {
     if bytes.len() > MOST_BYTES {
-        return Err(Fault { number: 10, line: 0 });
+        return Err(Fault { number: 10, line: 0, asked: Form::Nothing });
     }
     let mut lines = Lines::new(bytes);
     let count = lines.section("VALUES")?;
     if !(1..=GREATEST_GROUP).contains(&count) {
         return Err(lines.bad(1));
     }
-    let mut values = Vec::new();
-    for _ in 0..count {
-        match lines.next()?[..] {
-            [word] => values.push(decimal(word).ok_or(lines.bad(9))?),
-            _ => return Err(lines.bad(9)),
-        }
-    }
+    let values = (0..count).map(|_| lines.value()).collect::<Result<Vec<u32>, Fault>>()?;
     let first = lines.section("WARMUP")?;
     if u64::from(first) > MOST_STEPS {
         return Err(lines.bad(10));
@@ -142,6 +158,101 @@ pub fn read(bytes: &[u8]) -> Result<Schedule, Fault> {
     let measured = lines.steps(second)?;
     lines.end()?;
     Ok(Schedule { values, warmup, measured })
+}
+
+/// Whether the bytes are one whole line of the form: the reader above takes them as a file of that line alone.
+fn keeps(form: Form, line: &[u8]) -> bool {
+    let mut lines = Lines::new(line);
+    let taken = match form {
+        Form::Section(word) => lines.section(word).is_ok(),
+        Form::Value => lines.value().is_ok(),
+        Form::Step => lines.steps(1).is_ok(),
+        Form::Nothing => false,
+    };
+    taken && lines.end().is_ok()
+}
+
+/// Lines of the form, one for each word or letter, with 0 for every number and a cut wherever one may be.
+fn samples(form: Form) -> Vec<String> {
+    match form {
+        Form::Section(word) => vec![format!("{} 0\n", word)],
+        Form::Value => vec!["0\n".to_string()],
+        Form::Step => {
+            ["E 0 0 0 X", "S 0 0 0 X", "F 0 0 0 X", "Z 0 0 X", "Q 0 X", "P 0", "C 0", "R 0"].map(|step| format!("{}\n", step)).to_vec()
+        }
+        Form::Nothing => Vec::new(),
+    }
+}
+
+/// Whether some line of the form begins with these bytes: whether they and a tail of a sample are one.
+///
+/// The tails are enough. Let a line of the form be broken in two, and look at the sample with its word or
+/// letter. Broken inside a number, the first part ends in a number already: the first digits of a number
+/// are one of their own, which is no larger and has no leading zero either. The tail behind that number in
+/// the sample completes it. Broken just ahead of a number, the tail that begins with the 0 in its place
+/// does. Broken elsewhere, what follows in the sample is what follows in the line, but for a cut that the
+/// line may not have; and where a line may end, it may end in a cut if the sample does.
+fn begins(form: Form, bytes: &[u8]) -> bool {
+    samples(form).iter().any(|sample| (0..=sample.len()).any(|from| keeps(form, &[bytes, &sample.as_bytes()[from..]].concat())))
+}
+
+impl Fault {
+    /// The bytes of the faulty line, its LF included if it has one; none where it is missing.
+    fn line_of<'a>(&self, bytes: &'a [u8]) -> &'a [u8] {
+        bytes.split_inclusive(|b| *b == b'\n').nth(self.line.wrapping_sub(1)).unwrap_or(&[])
+    }
+
+    /// The column: for 1 and 10 the first digit of the count, and 0 where the file is too long; for 9 one
+    /// more than the length of the longest beginning of the line that begins some line of the form. What is
+    /// shorter than a beginning is one too, so that the search ends at the first that is none.
+    pub fn column(&self, bytes: &[u8]) -> usize {
+        let line = self.line_of(bytes);
+        match self.number {
+            9 => (0..=line.len()).take_while(|length| begins(self.asked, &line[..*length])).last().unwrap_or(0) + 1,
+            _ => line.iter().position(|b| b.is_ascii_digit()).map_or(0, |place| place + 1),
+        }
+    }
+
+    /// The number that ends with the byte of this column: its column, and whether it is too large.
+    fn number_there(line: &[u8], column: usize) -> Option<(usize, bool)> {
+        let digits = line.get(..column)?.iter().rev().take_while(|b| b.is_ascii_digit()).count();
+        let number = std::str::from_utf8(&line[column - digits..column]).ok()?;
+        (digits > 1).then(|| (column - digits + 1, number.parse::<u32>().is_err()))
+    }
+
+    /// Where the fault is, in words.
+    fn place(&self, bytes: &[u8]) -> &'static str {
+        let (line, column) = (self.line_of(bytes), self.column(bytes));
+        match (self.number, self.asked, column) {
+            (_, _, 0) => "too long",
+            (1 | 10, _, _) => "at a count",
+            (_, Form::Nothing, _) => "after the last step",
+            _ if line.is_empty() => "missing line",
+            _ if column > line.len() => "where the file ends",
+            _ if line[column - 1] == b'\n' => "at the LF",
+            _ => match Fault::number_there(line, column) {
+                Some((_, true)) => "number too large",
+                Some((_, false)) => "leading zero",
+                None if column == 1 => "at the first byte",
+                None => "at another byte",
+            },
+        }
+    }
+
+    /// The column as it is printed: another one where an error about columns is switched on.
+    fn printed_column(&self, bytes: &[u8], error: Option<Error>) -> usize {
+        let column = self.column(bytes);
+        match (error, self.place(bytes)) {
+            (Some(Error::ColumnOneTooSmall), _) => column.saturating_sub(1),
+            (Some(Error::ColumnOfTheNumber), "number too large") => {
+                Fault::number_there(self.line_of(bytes), column).map_or(column, |(first, _)| first)
+            }
+            (Some(Error::Column0ForAMissingLine), "missing line") => 0,
+            (Some(Error::CountAtTheLine), "at a count") => 1,
+            (Some(Error::EndAtTheLastByte), "where the file ends") => column - 1,
+            _ => column,
+        }
+    }
 }
 
 /// The watch on safety, on what is sent and on depths: what must hold in every run, whatever the rules
@@ -284,6 +395,12 @@ impl Watch {
     }
 }
 
+/// Where faults can be.
+const PLACES: [&str; 10] = [
+    "at the first byte", "at another byte", "leading zero", "number too large", "at the LF", "where the file ends", "missing line",
+    "after the last step", "at a count", "too long",
+];
+
 /// What was counted over the files answered.
 #[derive(Default)]
 pub struct Statistic {
@@ -307,10 +424,11 @@ impl Statistic {
             names.iter().map(|(label, name)| format!("{} {}", label, self.get(name))).collect::<Vec<_>>().join(", ")
         };
         format!(
-            "files: {} in all; {}\nsteps: {}\nrefused steps by number: {} (11 cannot occur, nor 14 for a short store: the stores here are maps)\n\
+            "files: {} in all; {}\nfaults: {}\nsteps: {}\nrefused steps by number: {} (11 cannot occur, nor 14 for a short store: the stores here are maps)\n\
              runs: {}, highest round {}, greatest depth of a decision {}\n",
             self.files,
             list(&[("sound", "sound"), ("faulty with 1:", "fault 1"), ("with 9:", "fault 9"), ("with 10:", "fault 10")]),
+            list(&PLACES.map(|place| (place, place))),
             list(&[("applied", "applied"), ("idle", "idle"), ("refused", "refused"), ("cut and applied", "cut applied"),
                 ("cut and idle but for the cut", "cut idle"), ("cut and refused", "cut refused"), ("jumps", "jumps")]),
             list(&[("2:", "refused 2"), ("3:", "refused 3"), ("4:", "refused 4"), ("5:", "refused 5"),
@@ -358,10 +476,13 @@ pub fn answer(bytes: &[u8], error: Option<Error>, statistic: &mut Statistic, wan
     let mut hits = BTreeSet::new();
     let schedule = match read(bytes) {
         Ok(schedule) => schedule,
-        Err(Fault { number, line }) => {
-            statistic.add(&format!("fault {}", number), 1);
-            hits.insert(format!("bad_{}", number));
-            return Answer { report: format!("BAD {} {}\n", number, line), complaints: Vec::new(), hits };
+        Err(fault) => {
+            let place = fault.place(bytes);
+            statistic.add(&format!("fault {}", fault.number), 1);
+            statistic.add(place, 1);
+            hits.insert(format!("bad_{}_{}", fault.number, place.replace(' ', "_")));
+            let report = format!("BAD {} {} {}\n", fault.number, fault.line, fault.printed_column(bytes, error));
+            return Answer { report, complaints: Vec::new(), hits };
         }
     };
     let mut group = Group::start(&schedule.values, error).expect("the reader lets 1 to 16 values pass");

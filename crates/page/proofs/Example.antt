@@ -30,7 +30,7 @@ use Rattle.rules.specs.Run.{startState, next, after, answers}
 use Rattle.rules.proofs.Cited.{and-left, and-right}
 use Rattle.text.specs.Number.{isDigit, scan, numberAt, spell}
 use Rattle.schedule.specs.Lines.{before, linesAt}
-use Rattle.schedule.specs.Line.{numbersAfter, mayCut, stepOf, closed, spacedAt, nextNumber, endAt, afterLetter, lineAt}
+use Rattle.schedule.specs.Line.{numbersAfter, mayCut, stepOf, closed, spacedAt, nextNumber, endAt, endedAt, afterLetter, lineAt}
 use Rattle.schedule.specs.Header.{wordAt, aloneAt, headerAt}
 use Rattle.schedule.specs.Values.{valueAt}
 use Rattle.schedule.specs.Schedule.{partAt, measuredFrom, warmupFrom, valuesFrom, readFile}
@@ -70,7 +70,7 @@ unfolding ones
     idles orIdle unlessRefused course handedOf handOvers sentBy againBy decidesNow settled stepped
     startState next after answers
     isDigit scan numberAt spell
-    before linesAt numbersAfter mayCut stepOf closed spacedAt nextNumber endAt afterLetter lineAt
+    before linesAt numbersAfter mayCut stepOf closed spacedAt nextNumber endAt endedAt afterLetter lineAt
     wordAt aloneAt headerAt valueAt partAt measuredFrom warmupFrom valuesFrom readFile
     countsIn countsOf hasRun runBy runOf
     filled sectionLine processesLine processLine lineOfProcess processLines doneText reportOf

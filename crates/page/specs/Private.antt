@@ -25,7 +25,7 @@ abbrev pub longestOf : ℕ → ℕ → ℕ
 longestOf t n = t + 9 * n
 
 abbrev pub longestFault : ℕ
-longestFault = longestOf 8 2
+longestFault = longestOf 10 3
 
 -- a section's line begins with a word of at most 8 bytes
 abbrev pub longestWord : ℕ

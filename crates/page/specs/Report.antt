@@ -15,13 +15,13 @@ use Rattle.schedule.specs.declared.fault.Fault.{Fault}
 use Rattle.schedule.specs.declared.run.Ran.{Ran}
 use Rattle.page.specs.Filled.{filled}
 
--- `BAD # #`, and LF
+-- `BAD # # #`, and LF
 abbrev pub badText : List ℕ
-badText = 66 ∷ 65 ∷ 68 ∷ 32 ∷ 35 ∷ 32 ∷ 35 ∷ 10 ∷ []
+badText = 66 ∷ 65 ∷ 68 ∷ 32 ∷ 35 ∷ 32 ∷ 35 ∷ 32 ∷ 35 ∷ 10 ∷ []
 
--- "the first faulty line is reported as `BAD 9 4` (number, line)"
+-- "the first faulty line is reported as `BAD 9 4` (number, line)", and by request 2026-01 with the column: "`BAD 9 212 7`"
 unfoldable pub faultLine : Fault → List ℕ
-faultLine f = filled badText (f .number ∷ f .line ∷ [])
+faultLine f = filled badText (f .number ∷ f .line ∷ f .column ∷ [])
 
 -- ` # applied # idle # refused # sent # again # decided #`, and LF
 abbrev pub countsText : List ℕ

@@ -40,8 +40,9 @@ pub(crate) fn put_fault(out: &mut [u8], at: usize, fault: Fault) -> usize
 {
     let number = fault.number as u32;
     let line = fault.line;
-    let numbers = [number, line];
-    fill(out, at, b"BAD # #\n", &numbers)
+    let column = fault.column;
+    let numbers = [number, line, column];
+    fill(out, at, b"BAD # # #\n", &numbers)
 }
 
 // A section's line behind its word.

@@ -5,5 +5,7 @@ pub mod Ahead
 pub mod Known
 pub mod InARow
 pub mod NoLf
+-- where reading stops
+pub mod Bounds
 -- a whole file
 pub mod Whole

@@ -26,14 +26,18 @@ measuredWord = 77 ∷ 69 ∷ 65 ∷ 83 ∷ 85 ∷ 82 ∷ 69 ∷ 68 ∷ []
 abbrev pub headerOf : List ℕ → ℕ → List ℕ
 headerOf w n = w ++ spaced n (ending false)
 
-abbrev pub onWord : {A : Type 0} → Word → A → (ℕ → A) → A
-onWord Missing z f = z
+-- the place of the count in a section's first line that begins at a place: its first digit stands there
+abbrev pub countAt : ℕ → List ℕ → ℕ
+countAt at w = at + length w + 1
+
+abbrev pub onWord : {A : Type 0} → Word → (ℕ → A) → (ℕ → A) → A
+onWord (Missing p) z f = z p
 onWord (Past n) z f = f n
 
 -- a word, byte by byte
 unfoldable pub wordAt : List ℕ → ℕ → List ℕ → Word
 wordAt s at [] = Past at
-wordAt s at (b ∷ w) = pick (ltb at (length s)) (pick (eqb (getD s at 0) b) (wordAt s (at + 1) w) Missing) Missing
+wordAt s at (b ∷ w) = pick (ltb at (length s)) (pick (eqb (getD s at 0) b) (wordAt s (at + 1) w) (Missing at)) (Missing at)
 
 -- a space, a number and LF
 unfoldable pub aloneAt : List ℕ → ℕ → Number

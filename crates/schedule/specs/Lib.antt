@@ -8,6 +8,9 @@ pub mod Line
 pub mod Header
 pub mod Values
 pub mod Schedule
+-- what holds of every file
+pub mod Files
+pub mod FaultTable
 -- the run
 pub mod Counts
 pub mod Run

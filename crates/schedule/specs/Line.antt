@@ -12,6 +12,8 @@ use Rattle.text.specs.Number.{pick, most, numberAt, spelled}
 use Rattle.schedule.specs.Lines.{Every, Item, broken, item}
 use Rattle.text.specs.declared.number.Number.{Number}
 use Rattle.text.specs.declared.number.Number.the-variants.{Bad, Value}
+use Rattle.schedule.specs.declared.line.End.{End}
+use Rattle.schedule.specs.declared.line.End.the-variants.{NoEnd, Ends}
 use Rattle.schedule.specs.declared.line.Line.{Line}
 
 -- ---- the bytes of a step line, each once
@@ -108,26 +110,23 @@ stepOf b i j r x =
     (pick (eqb b letterC) (Crash i)
     (Recover i)))))))
 
--- going on after a number, or after a line's end: what a bad one gives, and what it gives where it is there
-abbrev pub onNumber : {A : Type 0} → Number → A → (ℕ → ℕ → A) → A
-onNumber Bad z f = z
+-- Request 2026-01: "The byte is the first that no line of the form asked for there has after the bytes before it, the LF included." Whatever is read answers the place of that
+-- byte where it breaks the form. Going on after a number, or after a line's end: what a bad one gives, and what it gives where it is there
+abbrev pub onNumber : {A : Type 0} → Number → (ℕ → A) → (ℕ → ℕ → A) → A
+onNumber (Bad p) z f = z p
 onNumber (Value v n) z f = f v n
 
-pub data End : Type 0 where
-  noEnd : End
-  ends : Bool → ℕ → End
-
-abbrev pub onEnd : {A : Type 0} → End → A → (Bool → ℕ → A) → A
-onEnd noEnd z f = z
-onEnd (ends x n) z f = f x n
+abbrev pub onEnd : {A : Type 0} → End → (ℕ → A) → (Bool → ℕ → A) → A
+onEnd (NoEnd p) z f = z p
+onEnd (Ends x n) z f = f x n
 
 -- a number that ends its line: LF stands behind it
 unfoldable pub closed : List ℕ → Number → Number
-closed s r = onNumber r Bad (λ v n. pick (eqb (getD s n 0) lineFeed) (Value v (n + 1)) Bad)
+closed s r = onNumber r Bad (λ v n. pick (eqb (getD s n 0) lineFeed) (Value v (n + 1)) (Bad n))
 
 -- a space and a number
 unfoldable pub spacedAt : List ℕ → ℕ → Number
-spacedAt s at = pick (eqb (getD s at 0) spaceByte) (numberAt s (at + 1)) Bad
+spacedAt s at = pick (eqb (getD s at 0) spaceByte) (numberAt s (at + 1)) (Bad at)
 
 -- the same where one more number is wanted
 unfoldable pub nextNumber : List ℕ → ℕ → Bool → Number
@@ -136,14 +135,18 @@ nextNumber s at wanted = pick wanted (spacedAt s at) (Value 0 at)
 -- LF, or ` X` and LF where the step may be cut
 unfoldable pub endAt : List ℕ → ℕ → Bool → End
 endAt s at may =
-    pick (eqb (getD s at 0) lineFeed) (ends false (at + 1))
+    pick (eqb (getD s at 0) lineFeed) (Ends false (at + 1))
     (pick may
     (pick (eqb (getD s at 0) spaceByte)
     (pick (eqb (getD s (at + 1) 0) letterX)
-    (pick (eqb (getD s (at + 2) 0) lineFeed) (ends true (at + 3)) noEnd)
-    noEnd)
-    noEnd)
-    noEnd)
+    (pick (eqb (getD s (at + 2) 0) lineFeed) (Ends true (at + 3)) (NoEnd (at + 2)))
+    (NoEnd (at + 1)))
+    (NoEnd at))
+    (NoEnd at))
+
+-- the line of a letter and its numbers, which end at a place
+unfoldable pub endedAt : ℕ → ℕ → ℕ → ℕ → List ℕ → ℕ → Item Step
+endedAt b i j r s at = onEnd (endAt s at (mayCut b)) broken (λ x e. item (stepOf b i j r x) e)
 
 -- what follows the letter b
 unfoldable pub afterLetter : ℕ → List ℕ → ℕ → Item Step
@@ -151,13 +154,13 @@ afterLetter b s at =
     onNumber (nextNumber s at true) broken
     (λ i n. onNumber (nextNumber s n (ltb 1 (numbersAfter b))) broken
     (λ j m. onNumber (nextNumber s m (ltb 2 (numbersAfter b))) broken
-    (λ r l. onEnd (endAt s l (mayCut b)) broken (λ x e. item (stepOf b i j r x) e))))
+    (λ r l. endedAt b i j r s l)))
 
 -- the step line at a place
 unfoldable pub lineAt : List ℕ → ℕ → Item Step
-lineAt s at = pick (eqb (numbersAfter (getD s at 0)) 0) broken (afterLetter (getD s at 0) s (at + 1))
+lineAt s at = pick (eqb (numbersAfter (getD s at 0)) 0) (broken at) (afterLetter (getD s at 0) s (at + 1))
 
 -- the same, as the code answers it
 unfoldable pub asLine : Item Step → Line
-asLine broken = Line.Bad
+asLine (broken p) = Line.Bad p
 asLine (item x m) = Line.Good x m

@@ -17,10 +17,12 @@ use Rattle.rules.specs.declared.step.Step.{Step}
 use Rattle.schedule.specs.Limits.{mostSteps}
 use Rattle.text.specs.Number.{pick, numberAt}
 use Rattle.schedule.specs.Lines.{Item, broken, item, Items, brokenAt, items, linesAt}
-use Rattle.schedule.specs.Line.{End, noEnd, ends, nextNumber, lineAt}
+use Rattle.schedule.specs.Line.{nextNumber, lineAt}
 use Rattle.schedule.specs.Schedule.{Schedule, faulty, sound, valuesFrom, warmupFrom, readFile, partAt, noPart, part, noFault}
 use Rattle.schedule.specs.Run.{countsOf, ranOver, runBy}
 use Rattle.text.specs.declared.number.Number.{Number}
+use Rattle.schedule.specs.declared.line.End.{End}
+use Rattle.schedule.specs.declared.line.End.the-variants.{NoEnd, Ends}
 use Rattle.schedule.specs.declared.line.Read.{Read}
 use Rattle.schedule.specs.declared.line.StepRead.{StepRead}
 use Rattle.schedule.specs.declared.section.Lines.{Lines}
@@ -46,11 +48,6 @@ pub record Ahead (s : List ℕ) (at : ℕ) : Type 0 where
 abbrev pub NoLf : List ℕ → ℕ → Type 0
 NoLf s at = (j : ℕ) → at ≤ j → getD s j 0 ≢ 10
 
--- which of the two it is
-unfoldable pub AheadIs : List ℕ → ℕ → Bool → Type 0
-AheadIs s at true = Ahead s at
-AheadIs s at false = NoLf s at
-
 -- end is the place after the last LF, 0 where there is none
 pub record LastLf (s : List ℕ) (end : ℕ) : Type 0 where
   pub high : end ≤ length s
@@ -59,21 +56,26 @@ pub record LastLf (s : List ℕ) (end : ℕ) : Type 0 where
 
 -- the place after a line, after a line's end; 0 where the form is broken
 unfoldable pub placeAfter : Item Step → ℕ
-placeAfter broken = 0
+placeAfter (broken p) = 0
 placeAfter (item x m) = m
 
 unfoldable pub placeOfEnd : End → ℕ
-placeOfEnd noEnd = 0
-placeOfEnd (ends x m) = m
+placeOfEnd (NoEnd p) = 0
+placeOfEnd (Ends x m) = m
 
--- the place after some lines, or the first that breaks the form
+-- where reading a line stops: where it breaks the form, or after it
+unfoldable pub stopOf : Item Step → ℕ
+stopOf (broken p) = p
+stopOf (item x m) = m
+
+-- the place after some lines, or the first that breaks the form and where it begins
 unfoldable pub linesEnd : {A : Type 0} → Items A → Lines
-linesEnd (brokenAt i) = Lines.Fault i
+linesEnd (brokenAt i from p) = Lines.Fault i from
 linesEnd (items xs m) = Lines.Good m
 
 -- a line's value as a number
 unfoldable pub numberOf : Item ℕ → Number
-numberOf broken = Number.Bad
+numberOf (broken p) = Number.Bad p
 numberOf (item v n) = Number.Value v n
 
 -- ---- what is known to keep the form
@@ -106,7 +108,7 @@ lineRead t = item (t .step) (t .next)
 
 -- what the values of n lines are, as they were read into an array
 unfoldable pub valuesRead : ℕ → Values → Items ℕ
-valuesRead n r = pick (eqb (r .read) n) (items (take n (r .values)) (r .next)) (brokenAt (r .read))
+valuesRead n r = pick (eqb (r .read) n) (items (take n (r .values)) (r .next)) (brokenAt (r .read) (r .next) (r .stop))
 
 -- some steps whose lines stand from one place up to another
 pub record StepsAt (s : List ℕ) (count at m : ℕ) (ss : List Step) : Type 0 where
@@ -127,6 +129,7 @@ PartIs s at w line left (PartFound.Good k a m) = PartGood s at w line left k a m
 pub record OpeningGood (s : List ℕ) (n : ℕ) (vs : List ℕ) (at : ℕ) : Type 0 where
   pub low : 1 ≤ n
   pub high : n ≤ greatestSize
+  pub within : at ≤ length s
   pub is : valuesFrom s ≡ warmupFrom s (take n vs) at
 
 unfoldable pub OpeningIs : Bool → List ℕ → Opening → Type 0

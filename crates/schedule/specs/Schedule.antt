@@ -9,7 +9,7 @@ use Rattle.schedule.specs.Limits.{longest, mostSteps}
 use Rattle.text.specs.Number.{pick, most}
 use Rattle.schedule.specs.Lines.{Every, onItems, linesAt, linesOf}
 use Rattle.schedule.specs.Line.{onNumber, lineAt, lineOf, Holdable}
-use Rattle.schedule.specs.Header.{headerAt, headerOf, valuesWord, warmupWord, measuredWord}
+use Rattle.schedule.specs.Header.{headerAt, headerOf, countAt, valuesWord, warmupWord, measuredWord}
 use Rattle.schedule.specs.Values.{valueAt, valueLine}
 use Rattle.schedule.specs.declared.fault.Fault.{Fault}
 
@@ -41,17 +41,22 @@ pub record Fits (h : Schedule) : Type 0 where
 
 -- ---- what is read from a file
 
--- a sound file's schedule, or the first fault: the refusal's number and the line
+-- a sound file's schedule, or the first fault: the refusal's number, the line and the column
 pub data Reading : Type 0 where
   faulty : Fault → Reading
   sound : Schedule → Reading
 
-abbrev pub faultAt : ℕ → ℕ → Fault
-faultAt number line = record { number = number; line = line }
+-- a fault at a place of the line that begins at the place from: its column is "counted from 1"
+abbrev pub faultAt : ℕ → ℕ → ℕ → ℕ → Fault
+faultAt number line from place = record { number = number; line = line; column = place - from + 1 }
 
 -- number 0 says that a file has no fault
 abbrev pub noFault : Fault
-noFault = faultAt 0 0
+noFault = record { number = 0; line = 0; column = 0 }
+
+-- a file that is too long has line 0, and the column is "0 for a file that is too long"
+abbrev pub tooLong : Fault
+tooLong = record { number = 10; line = 0; column = 0 }
 
 -- the steps of a section and the place after its last line, or the fault
 pub data Part : Type 0 where
@@ -63,17 +68,17 @@ onPart (noPart f) g = faulty f
 onPart (part xs m) g = g xs m
 
 -- a section of steps whose first line is the file's line-th, and which may have left steps: refusal 9 where a line breaks the form, 10 at the count that takes the steps
--- above the limit. "A missing line counts as the line after the last"
+-- above the limit. "A missing line counts as the line after the last". Request 2026-01: "for refusals 1 and 10 in a count it is the count's first digit"
 unfoldable pub partAt : List ℕ → ℕ → List ℕ → ℕ → ℕ → Part
 partAt s at w line left =
-    onNumber (headerAt s at w) (noPart (faultAt 9 line))
-    (λ k a. pick (leb k left) (onItems (linesAt (lineAt s) k 0 a) (λ i. noPart (faultAt 9 (line + 1 + i))) part) (noPart (faultAt 10 line)))
+    onNumber (headerAt s at w) (λ p. noPart (faultAt 9 line at p))
+    (λ k a. pick (leb k left) (onItems (linesAt (lineAt s) k 0 a) (λ i from p. noPart (faultAt 9 (line + 1 + i) from p)) part) (noPart (faultAt 10 line at (countAt at w))))
 
 -- "Nothing follows the last step."
 unfoldable pub measuredFrom : List ℕ → List ℕ → List Step → ℕ → Reading
 measuredFrom s vs ws at =
     onPart (partAt s at measuredWord (length vs + length ws + 3) (mostSteps - length ws))
-    (λ ms e. pick (eqb e (length s)) (sound (record { values = vs; warmup = ws; measured = ms })) (faulty (faultAt 9 (length vs + length ws + length ms + 4))))
+    (λ ms e. pick (eqb e (length s)) (sound (record { values = vs; warmup = ws; measured = ms })) (faulty (faultAt 9 (length vs + length ws + length ms + 4) e e)))
 
 unfoldable pub warmupFrom : List ℕ → List ℕ → ℕ → Reading
 warmupFrom s vs at = onPart (partAt s at warmupWord (length vs + 2) mostSteps) (measuredFrom s vs)
@@ -81,9 +86,9 @@ warmupFrom s vs at = onPart (partAt s at warmupWord (length vs + 2) mostSteps) (
 -- refusal 1 for "not 1 to 16 values", at the line of VALUES. "9 ahead of 1 and 10 on one line"
 unfoldable pub valuesFrom : List ℕ → Reading
 valuesFrom s =
-    onNumber (headerAt s 0 valuesWord) (faulty (faultAt 9 1))
-    (λ n a. pick (among greatestSize n) (onItems (linesAt (valueAt s) n 0 a) (λ i. faulty (faultAt 9 (2 + i))) (warmupFrom s)) (faulty (faultAt 1 1)))
+    onNumber (headerAt s 0 valuesWord) (λ p. faulty (faultAt 9 1 0 p))
+    (λ n a. pick (among greatestSize n) (onItems (linesAt (valueAt s) n 0 a) (λ i from p. faulty (faultAt 9 (2 + i) from p)) (warmupFrom s)) (faulty (faultAt 1 1 0 (countAt 0 valuesWord))))
 
 -- "Too long a file is refused before any line is read."
 unfoldable pub readFile : List ℕ → Reading
-readFile s = pick (leb (length s) longest) (valuesFrom s) (faulty (faultAt 10 0))
+readFile s = pick (leb (length s) longest) (valuesFrom s) (faulty tooLong)

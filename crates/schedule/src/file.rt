@@ -1,13 +1,14 @@
 // A schedule file, whole: VALUES, WARMUP and MEASURED in that order, and nothing after the last step.
-// A file is sound, or has one fault: its number and its line.
+// A file is sound, or has one fault: its number, its line and its column.
 ghost use mathlib.Core.Path.{_≡_};
-ghost use Prim.Native.Nat.{_≤_, _<_};
-ghost use Rattle.rules.specs.Limits.{greatestSize};
+ghost use Prim.Native.Nat.{_≤_};
+ghost use lib.ListN.{length};
+ghost use Rattle.rules.specs.Limits.{greatestSize, among};
 ghost use Rattle.schedule.specs.Limits as limits;
-ghost use Rattle.schedule.specs.Schedule.{faultAt};
 ghost use Rattle.schedule.specs.Private.{LastLf, ValuesAre, StepsAre, FormIs};
 use crate::fault::Fault;
-use crate::header::header_at;
+use crate::header::count_fault;
+use crate::header::heading;
 use crate::lf::last_end;
 use crate::part::Part;
 use crate::part::part_at;
@@ -68,11 +69,9 @@ pub(crate) struct Form {
 }
 
 // An opening with a fault.
-pub(crate) fn no_opening(number: u8, line: u32) -> Opening
-    requires { ⌜ 1 ≤ number ⌝ }
-    ensures { λ r. ⌜ r .fault ≡ faultAt number line ⌝ }
+pub(crate) fn no_opening(fault: Fault) -> Opening
+    ensures { λ r. ⌜ r .fault ≡ fault ⌝ }
 {
-    let fault = Fault { number, line };
     let values = [0; Group::GREATEST];
     Opening {
         fault: fault,
@@ -101,22 +100,26 @@ pub(crate) fn no_form(fault: Fault) -> Form
     }
 }
 
-// The VALUES section, in a file whose last LF stands before end.
-pub(crate) fn read_opening(s: &[u8], end: usize) -> Opening
-    requires { ⌜ LastLf (now s) end ⌝ }
+// Whether a file may have this many values.
+pub(crate) fn is_size(n: u32) -> bool
+    ensures { λ r. ⌜ r ≡ among greatestSize n ⌝ }
+{
+    1 <= n && n <= Group::GREATEST as u32
+}
+
+// The VALUES section.
+pub(crate) fn read_opening(s: &[u8]) -> Opening
+    requires { ⌜ length (now s) ≤ limits.longest ⌝ }
     ensures { λ r. ⌜ ValuesAre (now (s .entry)) r ⌝ }
 {
-    match header_at(s, 0, end, b"VALUES") {
+    match heading(s, 0, b"VALUES") {
         Number::Value(n, first) => {
-            if n == 0 {
-                return no_opening(1, 1);
+            if !is_size(n) {
+                return no_opening(count_fault(1, 1, 0, b"VALUES"));
             }
-            if Group::GREATEST < n as usize {
-                return no_opening(1, 1);
-            }
-            let got = read_values(s, first, end, n as usize);
+            let got = read_values(s, first, n as usize);
             if got.read < n as usize {
-                return no_opening(9, 2 + got.read as u32);
+                return no_opening(Fault::at(9, 2 + got.read as u32, got.next, got.stop));
             }
             let fault = Fault::none();
             let values = got.values;
@@ -128,13 +131,13 @@ pub(crate) fn read_opening(s: &[u8], end: usize) -> Opening
                 at,
             }
         }
-        Number::Bad => no_opening(9, 1),
+        Number::Bad(place) => no_opening(Fault::at(9, 1, 0, place)),
     }
 }
 
 // The WARMUP and MEASURED sections from a place on, behind n value lines, to the end of the file.
 pub(crate) fn read_sections(s: &[u8], end: usize, n: u32, at: usize) -> Sections
-    requires { ⌜ LastLf (now s) end × (n ≤ greatestSize) ⌝ }
+    requires { ⌜ LastLf (now s) end × (n ≤ greatestSize) × (at ≤ length (now s)) × (length (now s) ≤ limits.longest) ⌝ }
     ensures { λ r. ⌜ StepsAre (now (s .entry)) n at r ⌝ }
 {
     match part_at(s, at, end, b"WARMUP", n + 2, File::MOST_STEPS) {
@@ -144,10 +147,8 @@ pub(crate) fn read_sections(s: &[u8], end: usize, n: u32, at: usize) -> Sections
             match part_at(s, warmup_end, end, b"MEASURED", line, left) {
                 Part::Good(measured, measured_at, measured_end) => {
                     if measured_end != s.len() {
-                        return Sections::Bad(Fault {
-                            number: 9,
-                            line: n + warmup + measured + 4,
-                        });
+                        let after = n + warmup + measured + 4;
+                        return Sections::Bad(Fault::at(9, after, measured_end, measured_end));
                     }
                     Sections::Good(Places {
                         warmup: warmup,
@@ -171,16 +172,17 @@ pub(crate) fn form_of(s: &[u8]) -> Form
         return no_form(Fault {
             number: 10,
             line: 0,
+            column: 0,
         });
     }
-    let end = last_end(s);
-    let opening = read_opening(s, end);
+    let opening = read_opening(s);
     let fault = opening.fault;
     if fault.number != 0 {
         return no_form(fault);
     }
     let n = opening.n;
     let values = opening.values;
+    let end = last_end(s);
     match read_sections(s, end, n, opening.at) {
         Sections::Good(places) => Form {
             fault,

@@ -1,16 +1,18 @@
 // Section headers: a fixed word, a space, a count and LF.
-// Each function answers what the definition of a header says of the bytes; the public one takes any place of any bytes.
+// Each function answers what the definition of a header says of the bytes, at any place of any bytes; where they break the form, the place.
 ghost use mathlib.Core.Path.{_≡_};
-ghost use Rattle.schedule.specs.Header.{wordAt, aloneAt, headerAt};
-ghost use Rattle.schedule.specs.Private.{Ahead, LastLf};
-use crate::lf::last_end;
+ghost use Prim.Native.Nat.{_≤_};
+ghost use Rattle.schedule.specs.Header.{wordAt, aloneAt, headerAt, countAt};
+ghost use Rattle.schedule.specs.Limits.{longest};
+ghost use Rattle.schedule.specs.Schedule.{faultAt};
+use crate::fault::Fault;
 use crate::line::spaced_at;
 use crate::number::closed;
 use text::number::Number;
 
-// The place after a word that stands at a place, or nothing.
+// The place after a word that stands at a place, or the place of the first byte that is not the word's.
 pub(crate) enum Word {
-    Missing,
+    Missing(usize),
     Past(usize),
 }
 
@@ -21,10 +23,10 @@ pub(crate) fn word_at(s: &[u8], at: usize, word: &[u8]) -> Word
     let mut place = at;
     while i < word.len() {
         if place >= s.len() {
-            return Word::Missing;
+            return Word::Missing(place);
         }
         if s[place] != word[i] {
-            return Word::Missing;
+            return Word::Missing(place);
         }
         place += 1;
         i += 1;
@@ -34,33 +36,26 @@ pub(crate) fn word_at(s: &[u8], at: usize, word: &[u8]) -> Word
 
 // A space, a number and LF.
 pub(crate) fn alone_at(s: &[u8], at: usize) -> Number
-    requires { ⌜ Ahead (now s) at ⌝ }
     ensures { λ r. ⌜ r ≡ aloneAt (now (s .entry)) at ⌝ }
 {
     let number = spaced_at(s, at);
     closed(s, number)
 }
 
-// A word and its count, to the end of the line, in a file whose last LF stands before end.
-pub(crate) fn header_at(s: &[u8], at: usize, end: usize, word: &[u8]) -> Number
-    requires { ⌜ LastLf (now s) end ⌝ }
-    ensures { λ r. ⌜ r ≡ headerAt (now (s .entry)) at (now (word .entry)) ⌝ }
-{
-    match word_at(s, at, word) {
-        Word::Past(n) => {
-            if n >= end {
-                return Number::Bad;
-            }
-            alone_at(s, n)
-        }
-        Word::Missing => Number::Bad,
-    }
-}
-
-// The same in any file: the count and the place after the line, or no number where the line breaks the form.
+// A word and its count, to the end of the line: the count and the place after the line, or the place where the line breaks the form.
 pub fn heading(s: &[u8], at: usize, word: &[u8]) -> Number
     ensures { λ r. ⌜ r ≡ headerAt (now (s .entry)) at (now (word .entry)) ⌝ }
 {
-    let end = last_end(s);
-    header_at(s, at, end, word)
+    match word_at(s, at, word) {
+        Word::Past(n) => alone_at(s, n),
+        Word::Missing(place) => Number::Bad(place),
+    }
+}
+
+// The fault of a count that the rules do not allow, in a header that begins at a place: it is at the count's first digit.
+pub(crate) fn count_fault(number: u8, line: u32, at: usize, word: &[u8]) -> Fault
+    requires { ⌜ countAt at (now word) ≤ longest ⌝ }
+    ensures { λ r. ⌜ r ≡ faultAt number line at (countAt at (now (word .entry))) ⌝ }
+{
+    Fault::at(number, line, at, at + word.len() + 1)
 }

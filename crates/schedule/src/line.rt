@@ -2,12 +2,13 @@
 // Each function answers what the definition of a step line says of the bytes; the public one takes any place of any bytes.
 ghost use mathlib.Core.Path.{_≡_};
 ghost use Rattle.text.specs.Number.{numberAt};
-ghost use Rattle.schedule.specs.Line.{numbersAfter, mayCut, stepOf, spacedAt, nextNumber, endAt, lineAt, asLine};
-ghost use Rattle.schedule.specs.Private.{Ahead, placeAfter, placeOfEnd, KnownNumber, KnownNext, KnownLine, valueRead, lineRead};
-use crate::lf::lf_ahead;
-use crate::number::decimal_at;
+ghost use Rattle.schedule.specs.Line.{numbersAfter, mayCut, stepOf, spacedAt, nextNumber, endAt, endedAt, lineAt, asLine};
+ghost use Rattle.schedule.specs.Private.{Ahead, placeAfter, placeOfEnd, stopOf, KnownNumber, KnownNext, KnownLine, valueRead, lineRead};
+use crate::number::decimal_ahead;
 use rules::step::Step;
 use text::number::Number;
+use text::number::byte_at;
+use text::number::decimal;
 use text::number::is_digit;
 
 // How many numbers follow a step letter; 0 for any other letter.
@@ -77,23 +78,21 @@ pub(crate) fn step_of(letter: u8, a: u32, b: u32, c: u32, cut: bool) -> Step
     }
 }
 
-// ---- a line that may break the form
+// ---- any line: each part answers the place of the first byte that breaks the form, and what reads it hands that on
 
 // A space and a number.
 pub(crate) fn spaced_at(s: &[u8], at: usize) -> Number
-    requires { ⌜ Ahead (now s) at ⌝ }
     ensures { λ r. ⌜ r ≡ spacedAt (now (s .entry)) at ⌝ }
 {
-    if s[at] == 32 {
-        decimal_at(s, at + 1)
+    if byte_at(s, at) == 32 {
+        decimal(s, at + 1)
     } else {
-        Number::Bad
+        Number::Bad(at)
     }
 }
 
 // The same where one more number is wanted, and otherwise nothing read.
 pub(crate) fn next_number(s: &[u8], at: usize, wanted: bool) -> Number
-    requires { ⌜ Ahead (now s) at ⌝ }
     ensures { λ r. ⌜ r ≡ nextNumber (now (s .entry)) at wanted ⌝ }
 {
     if wanted {
@@ -103,8 +102,112 @@ pub(crate) fn next_number(s: &[u8], at: usize, wanted: bool) -> Number
     }
 }
 
+// A line's end, which is LF or, where the step may be cut, ` X` and LF: whether it is a cut and the place after it, or where it breaks the form.
+pub(crate) enum End {
+    NoEnd(usize),
+    Ends(bool, usize),
+}
+
+pub(crate) fn end_at(s: &[u8], at: usize, may: bool) -> End
+    ensures { λ r. ⌜ r ≡ endAt (now (s .entry)) at may ⌝ }
+{
+    let b = byte_at(s, at);
+    if b == 10 {
+        return End::Ends(false, at + 1);
+    }
+    if !may {
+        return End::NoEnd(at);
+    }
+    if b != 32 {
+        return End::NoEnd(at);
+    }
+    if byte_at(s, at + 1) != 88 {
+        return End::NoEnd(at + 1);
+    }
+    if byte_at(s, at + 2) != 10 {
+        return End::NoEnd(at + 2);
+    }
+    End::Ends(true, at + 3)
+}
+
+// A step and the place after its line, or the place where the line breaks the form.
+pub enum Line {
+    Bad(usize),
+    Good(Step, usize),
+}
+
+// The line of a letter and its numbers, which end at a place.
+pub(crate) fn ended_at(s: &[u8], at: usize, letter: u8, a: u32, b: u32, c: u32) -> Line
+    ensures { λ r. ⌜ r ≡ asLine (endedAt letter a b c (now (s .entry)) at) ⌝ }
+{
+    match end_at(s, at, may_cut(letter)) {
+        End::Ends(cut, next) => {
+            let step = step_of(letter, a, b, c, cut);
+            Line::Good(step, next)
+        }
+        End::NoEnd(place) => Line::Bad(place),
+    }
+}
+
+// What stands at a place as a step line.
+pub fn step_line(s: &[u8], at: usize) -> Line
+    ensures { λ r. ⌜ r ≡ asLine (lineAt (now (s .entry)) at) ⌝ }
+{
+    let letter = byte_at(s, at);
+    let count = numbers_after(letter);
+    if count == 0 {
+        return Line::Bad(at);
+    }
+    match spaced_at(s, at + 1) {
+        Number::Value(a, n) => match next_number(s, n, 1 < count) {
+            Number::Value(b, m) => match next_number(s, m, 2 < count) {
+                Number::Value(c, l) => ended_at(s, l, letter, a, b, c),
+                Number::Bad(place) => Line::Bad(place),
+            },
+            Number::Bad(place) => Line::Bad(place),
+        },
+        Number::Bad(place) => Line::Bad(place),
+    }
+}
+
+// Where reading the step line at a place stops: where it breaks the form, or after it.
+pub(crate) fn line_stop(s: &[u8], at: usize) -> usize
+    ensures { λ r. ⌜ r ≡ stopOf (lineAt (now (s .entry)) at) ⌝ }
+{
+    match step_line(s, at) {
+        Line::Good(_, next) => next,
+        Line::Bad(place) => place,
+    }
+}
+
+// ---- a line with an LF ahead of it, of which is asked only whether it keeps the form: no byte is tested for the file's end
+
+// A space and a number.
+pub(crate) fn spaced_ahead(s: &[u8], at: usize) -> Number
+    requires { ⌜ Ahead (now s) at ⌝ }
+    ensures { λ r. ⌜ r ≡ spacedAt (now (s .entry)) at ⌝ }
+{
+    if s[at] == 32 {
+        decimal_ahead(s, at + 1)
+    } else {
+        Number::Bad(at)
+    }
+}
+
+// The same where one more number is wanted, and otherwise nothing read.
+pub(crate) fn next_ahead(s: &[u8], at: usize, wanted: bool) -> Number
+    requires { ⌜ Ahead (now s) at ⌝ }
+    ensures { λ r. ⌜ r ≡ nextNumber (now (s .entry)) at wanted ⌝ }
+{
+    if wanted {
+        spaced_ahead(s, at)
+    } else {
+        Number::Value(0, at)
+    }
+}
+
 // The place after a line's end, which is LF or, where the step may be cut, ` X` and LF; 0 where neither stands here.
-pub(crate) fn end_at(s: &[u8], at: usize, may: bool) -> usize
+pub(crate) fn end_ahead(s: &[u8], at: usize, may: bool) -> usize
     requires { ⌜ Ahead (now s) at ⌝ }
     ensures { λ r. ⌜ r ≡ placeOfEnd (endAt (now (s .entry)) at may) ⌝ }
 {
@@ -137,15 +240,15 @@ pub(crate) fn line_end(s: &[u8], at: usize) -> usize
     if count == 0 {
         return 0;
     }
-    match spaced_at(s, at + 1) {
-        Number::Value(_, n) => match next_number(s, n, 1 < count) {
-            Number::Value(_, m) => match next_number(s, m, 2 < count) {
-                Number::Value(_, l) => end_at(s, l, may_cut(letter)),
-                Number::Bad => 0,
+    match spaced_ahead(s, at + 1) {
+        Number::Value(_, n) => match next_ahead(s, n, 1 < count) {
+            Number::Value(_, m) => match next_ahead(s, m, 2 < count) {
+                Number::Value(_, l) => end_ahead(s, l, may_cut(letter)),
+                Number::Bad(_) => 0,
             },
-            Number::Bad => 0,
+            Number::Bad(_) => 0,
         },
-        Number::Bad => 0,
+        Number::Bad(_) => 0,
     }
 }
 
@@ -207,27 +310,4 @@ pub(crate) fn known_line(s: &[u8], at: usize) -> StepRead
     let step = step_of(letter, first, second, third, cut);
     let next = if cut { end + 3 } else { end + 1 };
     StepRead { step, next }
-}
-
-// ---- any line
-
-// A step and the place after its line, or a line that breaks the form.
-pub enum Line {
-    Bad,
-    Good(Step, usize),
-}
-
-// What stands at a place as a step line.
-pub fn step_line(s: &[u8], at: usize) -> Line
-    ensures { λ r. ⌜ r ≡ asLine (lineAt (now (s .entry)) at) ⌝ }
-{
-    if !lf_ahead(s, at) {
-        return Line::Bad;
-    }
-    if line_end(s, at) == 0 {
-        return Line::Bad;
-    }
-    let taken = known_line(s, at);
-    let step = taken.step;
-    Line::Good(step, taken.next)
 }

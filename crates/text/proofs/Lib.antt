@@ -1,5 +1,6 @@
 pub mod NumberLaws
 pub mod StandsLaws
 pub mod SpellLaws
+pub mod StopLaws
 pub mod PutLaws
 pub mod Unique

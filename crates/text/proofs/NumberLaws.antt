@@ -39,6 +39,10 @@ inside s at h = go (decLt at (length s))
     go (yes p) = p
     go (no n) = let e : getD s at 0 ≡ 0 = List·getD-eq-default s 0 (omega arith) in absurd (omega arith)
 
+-- the same of a byte that was read there
+pub byte-inside : (s : List ℕ) (at : ℕ) {b : ℕ} → b ≡ getD s at 0 → 0 < b → at < length s
+byte-inside s at {b} e h = inside s at (omega arith)
+
 -- a digit at a place of a list
 pub record Digit (s : List ℕ) (at : ℕ) : Type 0 where
   pub is : isDigit (getD s at 0) ≡ true
@@ -61,7 +65,7 @@ pub scan-more : (v i b : ℕ) (t : List ℕ) → isDigit b ≡ true → v * 10 +
 unfolding scan
 scan-more v i b t d h = rw (d, le-leb (v * 10 + (b - 48)) most h)
 
-pub scan-over : (v i b : ℕ) (t : List ℕ) → isDigit b ≡ true → most < v * 10 + (b - 48) → scan v i (b ∷ t) ≡ Bad
+pub scan-over : (v i b : ℕ) (t : List ℕ) → isDigit b ≡ true → most < v * 10 + (b - 48) → scan v i (b ∷ t) ≡ Bad i
 unfolding scan
 scan-over v i b t d h = rw (d, lt-leb (v * 10 + (b - 48)) most h)
 
@@ -77,7 +81,7 @@ module _ (s : List ℕ) (v i : ℕ) where
   at-more h d g = ap (scan v i) (drop-cons s i 0 h) ∙ scan-more v i (getD s i 0) (drop (suc i) s) d g
       ∙ ap (λ (k : ℕ). scan (v * 10 + (getD s i 0 - 48)) (i + 1) (drop k s)) (sym (add-one i))
 
-  pub at-over : i < length s → isDigit (getD s i 0) ≡ true → most < v * 10 + (getD s i 0 - 48) → scan v i (drop i s) ≡ Bad
+  pub at-over : i < length s → isDigit (getD s i 0) ≡ true → most < v * 10 + (getD s i 0 - 48) → scan v i (drop i s) ≡ Bad i
   at-over h d g = ap (scan v i) (drop-cons s i 0 h) ∙ scan-over v i (getD s i 0) (drop (suc i) s) d g
 
   pub at-stop : isDigit (getD s i 0) ≡ false → scan v i (drop i s) ≡ Value v i
@@ -89,11 +93,11 @@ module _ (s : List ℕ) (v i : ℕ) where
 -- ---- the cases of a decimal
 
 module _ (s : List ℕ) (at : ℕ) where
-  pub number-none : isDigit (getD s at 0) ≡ false → numberAt s at ≡ Bad
+  pub number-none : isDigit (getD s at 0) ≡ false → numberAt s at ≡ Bad at
   unfolding numberAt isDigit
   number-none d = rw d
 
-  pub number-zero-more : getD s at 0 ≡ 48 → isDigit (getD s (at + 1) 0) ≡ true → numberAt s at ≡ Bad
+  pub number-zero-more : getD s at 0 ≡ 48 → isDigit (getD s (at + 1) 0) ≡ true → numberAt s at ≡ Bad (at + 1)
   unfolding numberAt isDigit
   number-zero-more e d = rw (e, d)
 

@@ -167,7 +167,7 @@ scanned-more v i b t w j g d m r =
 scanned-step : (v i b : ℕ) (t : List ℕ) (w j : ℕ) → 1 ≤ v → v ≤ most
     → (v * 10 + (b - 48) ≤ most → scan (v * 10 + (b - 48)) (i + 1) t ≡ Value w j → Scanned (v * 10 + (b - 48)) (i + 1) t w j)
     → (x : Bool) → isDigit b ≡ x → (y : Bool) → leb (v * 10 + (b - 48)) most ≡ y
-    → pick x (pick y (scan (v * 10 + (b - 48)) (i + 1) t) Bad) (Value v i) ≡ Value w j → Scanned v i (b ∷ t) w j
+    → pick x (pick y (scan (v * 10 + (b - 48)) (i + 1) t) (Bad i)) (Value v i) ≡ Value w j → Scanned v i (b ∷ t) w j
 scanned-step v i b t w j g m ih false d y o e = scanned-none v i w j m (b ∷ t) d e
 scanned-step v i b t w j g m ih true d false o e = let z : _≡_ {A = ℕ} 0 1 = cc in absurd (omega arith)
 scanned-step v i b t w j g m ih true d true o e =
@@ -229,7 +229,7 @@ module _ (s : List ℕ) (at v next : ℕ) where
       (scanned (getD s at 0 - 48) (at + 1) (drop (suc at) s) v next (omega arith) (omega arith) far)
 
   read-cases : (x : Bool) → isDigit (getD s at 0) ≡ x → (y : Bool) → eqb (getD s at 0) 48 ≡ y → (z : Bool) → isDigit (getD s (at + 1) 0) ≡ z
-      → pick x (pick y (pick z Bad (Value 0 (at + 1))) (scan 0 at (drop at s))) Bad ≡ Value v next → ReadAs s at v next
+      → pick x (pick y (pick z (Bad (at + 1)) (Value 0 (at + 1))) (scan 0 at (drop at s))) (Bad at) ≡ Value v next → ReadAs s at v next
   read-cases false d y o z k e = let u : _≡_ {A = ℕ} 0 1 = cc in absurd (omega arith)
   read-cases true d false o z k e = read-scan d (eqb-false (getD s at 0) 48 o) e
   read-cases true d true o true k e = let u : _≡_ {A = ℕ} 0 1 = cc in absurd (omega arith)

@@ -1,5 +1,5 @@
 -- The laws of what stands in a text: two parts join, a whole parts, and one byte stands. Assumes nothing.
-use Prim.Native.Nat.{ℕ, _+_, _<_}
+use Prim.Native.Nat.{ℕ, _+_, _≤_, _<_}
 use mathlib.Core.Path.{_≡_, refl, sym, ap, ap₂, _∙_}
 use mathlib.Core.List.{List, [], _∷_, _++_, append-assoc}
 use native.Mathlib.Omega.{arith}
@@ -58,3 +58,7 @@ module _ (s : List ℕ) where
 
   pub stands-within : (a c b : ℕ) (l : List ℕ) → Stands s a c (b ∷ l) → a < length s
   stands-within a c b l p = let n = ap length (p .here) in omega (arith, length-drop a s)
+
+  -- what begins within the text ends within it
+  pub stands-high : (a c : ℕ) (l : List ℕ) → Stands s a c l → a ≤ length s → c ≤ length s
+  stands-high a c l p h = let n = ap length (p .here) in omega (arith, p .end, length-append l (drop c s), length-drop a s, length-drop c s)

@@ -20,20 +20,20 @@ most = 4294967295
 unfoldable pub isDigit : ℕ → Bool
 isDigit b = pick (ltb b 48) false (leb b 57)
 
--- the digits at the front of a list, after a number v that was read up to place i
+-- the digits at the front of a list, after a number v that was read up to place i. A number that is bad says at which place it is so: here at the digit that makes it too large
 unfoldable pub scan : ℕ → ℕ → List ℕ → Number
 scan v i [] = Value v i
 scan v i (b ∷ t) =
-    pick (isDigit b) (pick (leb (v * 10 + (b - 48)) most) (scan (v * 10 + (b - 48)) (i + 1) t) Bad) (Value v i)
+    pick (isDigit b) (pick (leb (v * 10 + (b - 48)) most) (scan (v * 10 + (b - 48)) (i + 1) t) (Bad i)) (Value v i)
 
--- a decimal has a digit, and begins with `0` only where that is all of it. A place past the end has the byte 0; the end ends a decimal
+-- a decimal has a digit, and begins with `0` only where that is all of it: a second digit is bad. A place past the end has the byte 0; the end ends a decimal
 unfoldable pub numberAt : List ℕ → ℕ → Number
 numberAt s at =
     pick (isDigit (getD s at 0))
     (pick (eqb (getD s at 0) 48)
-    (pick (isDigit (getD s (at + 1) 0)) Bad (Value 0 (at + 1)))
+    (pick (isDigit (getD s (at + 1) 0)) (Bad (at + 1)) (Value 0 (at + 1)))
     (scan 0 at (drop at s)))
-    Bad
+    (Bad at)
 
 -- a number's digits, where f + 1 of them are enough: below ten its one digit, else the digits of its tenth and the last
 unfoldable pub spell : ℕ → ℕ → List ℕ

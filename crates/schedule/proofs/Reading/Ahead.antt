@@ -12,7 +12,7 @@ use lib.ListN.{length, getD, drop}
 use lib.Seq.{drop-cons}
 use Rattle.text.specs.Number.{isDigit, pick, most, scan, numberAt}
 use Rattle.schedule.specs.Line.{numbersAfter, spacedAt, nextNumber}
-use Rattle.schedule.specs.Private.{Ahead, NoLf, AheadIs, LastLf}
+use Rattle.schedule.specs.Private.{Ahead, NoLf, LastLf}
 use Rattle.text.specs.declared.number.Number.the-variants.{Bad, Value}
 use Rattle.text.proofs.NumberLaws.{digit-range}
 use Rattle.schedule.proofs.Reading.Cases.{past-none, spaced-is, space-here}
@@ -72,45 +72,6 @@ free-last f e = record { high = f .high; lf = e; none = f .none }
 pub free-all : {s : List ℕ} {k : ℕ} → Free s k → k ≤ 0 → LastLf s 0
 free-all f h = record { high = omega arith; lf = λ z. absurd (omega arith); none = λ j z. f .none j (omega arith) }
 
--- ---- an LF ahead, sought from a place on
-
--- none stands from the place up to k
-pub record Unseen (s : List ℕ) (at k : ℕ) : Type 0 where
-  pub low : at ≤ k
-  pub none : (j : ℕ) → at ≤ j → j < k → getD s j 0 ≢ 10
-
-pub unseen-first : (s : List ℕ) (at : ℕ) → Unseen s at at
-unseen-first s at = record { low = omega arith; none = λ j h g. absurd (omega arith) }
-
-module _ {s : List ℕ} {at k : ℕ} (u : Unseen s at k) where
-  pub unseen-more : getD s k 0 ≢ 10 → Unseen s at (k + 1)
-  unseen-more n = record { low = omega (arith, u .low); none = λ j h g. go j h g (decLt j k) }
-    where
-      go : (j : ℕ) → at ≤ j → j < k + 1 → Dec (j < k) → getD s j 0 ≢ 10
-      go j h g (yes p) = u .none j h p
-      go j h g (no p) = λ z. n (ap (λ (i : ℕ). getD s i 0) (omega arith) ∙ z)
-
-  pub unseen-found : k < length s → getD s k 0 ≡ 10 → AheadIs s at true
-  unfolding AheadIs
-  unseen-found h e = record { end = k + 1; low = omega (arith, u .low); high = omega arith; lf = ap (λ (i : ℕ). getD s i 0) (omega arith) ∙ e }
-
-  pub unseen-all : length s ≤ k → AheadIs s at false
-  unfolding AheadIs
-  unseen-all h j g = go (decLt j k)
-    where
-      go : Dec (j < k) → getD s j 0 ≢ 10
-      go (yes p) = u .none j g p
-      go (no p) = past-none s j (omega arith)
-
--- what the flag says
-pub ahead-is : (s : List ℕ) (at : ℕ) {b : Bool} → AheadIs s at b → b ≡ true → Ahead s at
-unfolding AheadIs
-ahead-is s at h e = subst (AheadIs s at) e h
-
-pub ahead-none : (s : List ℕ) (at : ℕ) {b : Bool} → AheadIs s at b → b ≡ false → NoLf s at
-unfolding AheadIs
-ahead-none s at h e = subst (AheadIs s at) e h
-
 -- ---- past a number
 
 module _ (s : List ℕ) (w n : ℕ) where
@@ -119,7 +80,7 @@ module _ (s : List ℕ) (w n : ℕ) where
 
   scan-pick : (v i b : ℕ) (t : List ℕ) → Ahead s i → (isDigit b ≡ true → scan (v * 10 + (b - 48)) (i + 1) t ≡ Value w n → Ahead s n)
       → (x : Bool) → isDigit b ≡ x → (y : Bool)
-      → pick x (pick y (scan (v * 10 + (b - 48)) (i + 1) t) Bad) (Value v i) ≡ Value w n → Ahead s n
+      → pick x (pick y (scan (v * 10 + (b - 48)) (i + 1) t) (Bad i)) (Value v i) ≡ Value w n → Ahead s n
   scan-pick v i b t h ih false d y e = value-ahead v i h e
   scan-pick v i b t h ih true d false e = let z : _≡_ {A = ℕ} 0 1 = cc in absurd (omega arith)
   scan-pick v i b t h ih true d true e = ih d e
@@ -139,7 +100,7 @@ module _ (s : List ℕ) (w n : ℕ) where
   scan-ahead v i h e = scan-over v i (drop i s) refl h e
 
   number-pick : (at : ℕ) → Ahead s at → (x : Bool) → isDigit (getD s at 0) ≡ x → (y : Bool) → (z : Bool)
-      → pick x (pick y (pick z Bad (Value 0 (at + 1))) (scan 0 at (drop at s))) Bad ≡ Value w n → Ahead s n
+      → pick x (pick y (pick z (Bad (at + 1)) (Value 0 (at + 1))) (scan 0 at (drop at s))) (Bad at) ≡ Value w n → Ahead s n
   number-pick at h false d y z e = let u : _≡_ {A = ℕ} 0 1 = cc in absurd (omega arith)
   number-pick at h true d true true e = let u : _≡_ {A = ℕ} 0 1 = cc in absurd (omega arith)
   number-pick at h true d true false e = value-ahead 0 (at + 1) (ahead-digit h d) e

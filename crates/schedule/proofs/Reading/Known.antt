@@ -12,9 +12,11 @@ use borrow.Author.Tests.{eqb-true, eqb-false}
 use Rattle.rules.specs.declared.step.Step.{Step}
 use Rattle.text.specs.Number.{isDigit, pick, most, scan, numberAt}
 use Rattle.schedule.specs.Lines.{Item, broken, item, onItem}
-use Rattle.schedule.specs.Line.{numbersAfter, mayCut, stepOf, onNumber, End, noEnd, ends, onEnd, spacedAt, nextNumber, endAt, afterLetter, lineAt}
+use Rattle.schedule.specs.Line.{numbersAfter, mayCut, stepOf, onNumber, onEnd, spacedAt, nextNumber, endAt, endedAt, afterLetter, lineAt}
 use Rattle.schedule.specs.Private.{KnownNumber, KnownNext, KnownLine, valueRead}
 use Rattle.schedule.specs.declared.line.Read.{Read}
+use Rattle.schedule.specs.declared.line.End.{End}
+use Rattle.schedule.specs.declared.line.End.the-variants.{NoEnd, Ends}
 use Rattle.text.specs.declared.number.Number.{Number}
 use Rattle.text.specs.declared.number.Number.the-variants.{Bad, Value}
 use Rattle.schedule.proofs.Reading.Cases.{bad-not, same-value, same-place, spaced-is, space-here, next-wanted}
@@ -23,7 +25,7 @@ use Rattle.text.proofs.NumberLaws.{Digit, inside, digit-here, number-none, numb
 -- ---- numbers
 
 -- a scan ends where it begins, or later
-low-step : (v i w e : ℕ) (rest : Number) → (rest ≡ Value w e → i + 1 ≤ e) → (d f : Bool) → pick d (pick f rest Bad) (Value v i) ≡ Value w e → i ≤ e
+low-step : (v i w e : ℕ) (rest : Number) → (rest ≡ Value w e → i + 1 ≤ e) → (d f : Bool) → pick d (pick f rest (Bad i)) (Value v i) ≡ Value w e → i ≤ e
 low-step v i w e rest h true true q = omega (arith, h q)
 low-step v i w e rest h true false q = absurd (bad-not q)
 low-step v i w e rest h false f q = let p : i ≡ e = same-place q in omega arith
@@ -100,11 +102,11 @@ module _ (s : List ℕ) (at : ℕ) (k : KnownNumber s at) where
 
 -- ---- lines
 
-broken-not : {x : Step} {m : ℕ} → broken ≡ item x m → ⊥
-broken-not e = let z : _≡_ {A = ℕ} 0 1 = ap (λ (y : Item Step). onItem y 0 (λ _ _. 1)) e in absurd (omega arith)
+broken-not : {p : ℕ} {x : Step} {m : ℕ} → broken p ≡ item x m → ⊥
+broken-not e = let z : _≡_ {A = ℕ} 0 1 = ap (λ (y : Item Step). onItem y (λ _. 0) (λ _ _. 1)) e in absurd (omega arith)
 
-no-end-not : {x : Bool} {m : ℕ} → noEnd ≡ ends x m → ⊥
-no-end-not e = let z : _≡_ {A = ℕ} 0 1 = ap (λ (y : End). onEnd y 0 (λ _ _. 1)) e in absurd (omega arith)
+no-end-not : {p : ℕ} {x : Bool} {m : ℕ} → NoEnd p ≡ Ends x m → ⊥
+no-end-not e = let z : _≡_ {A = ℕ} 0 1 = ap (λ (y : End). onEnd y (λ _. 0) (λ _ _. 1)) e in absurd (omega arith)
 
 -- the end of a line: whether it is a cut shows at its first byte, and it stands within the file
 pub record Ended (s : List ℕ) (at : ℕ) (x : Bool) (next : ℕ) : Type 0 where
@@ -114,10 +116,10 @@ pub record Ended (s : List ℕ) (at : ℕ) (x : Bool) (next : ℕ) : Type 0 wher
   pub high : next ≤ length s
 
 module _ (s : List ℕ) (at : ℕ) where
-  end-plain : {x : Bool} {next : ℕ} → getD s at 0 ≡ 10 → ends false (at + 1) ≡ ends x next → Ended s at x next
+  end-plain : {x : Bool} {next : ℕ} → getD s at 0 ≡ 10 → Ends false (at + 1) ≡ Ends x next → Ended s at x next
   end-plain {x} {next} b e =
-      let f : false ≡ x = ap (λ (y : End). onEnd y false (λ z _. z)) e in
-      let p : at + 1 ≡ next = ap (λ (y : End). onEnd y 0 (λ _ m. m)) e in
+      let f : false ≡ x = ap (λ (y : End). onEnd y (λ _. false) (λ z _. z)) e in
+      let p : at + 1 ≡ next = ap (λ (y : End). onEnd y (λ _. 0) (λ _ m. m)) e in
       let h : at < length s = inside s at (omega (arith, b)) in
       record {
         told = ap (λ (k : ℕ). eqb k 32) b ∙ f;
@@ -126,10 +128,10 @@ module _ (s : List ℕ) (at : ℕ) where
         high = omega arith;
       }
 
-  end-cut : {x : Bool} {next : ℕ} → getD s at 0 ≡ 32 → getD s (at + 2) 0 ≡ 10 → ends true (at + 3) ≡ ends x next → Ended s at x next
+  end-cut : {x : Bool} {next : ℕ} → getD s at 0 ≡ 32 → getD s (at + 2) 0 ≡ 10 → Ends true (at + 3) ≡ Ends x next → Ended s at x next
   end-cut {x} {next} b l e =
-      let f : true ≡ x = ap (λ (y : End). onEnd y false (λ z _. z)) e in
-      let p : at + 3 ≡ next = ap (λ (y : End). onEnd y 0 (λ _ m. m)) e in
+      let f : true ≡ x = ap (λ (y : End). onEnd y (λ _. false) (λ z _. z)) e in
+      let p : at + 3 ≡ next = ap (λ (y : End). onEnd y (λ _. 0) (λ _ m. m)) e in
       let h : at + 2 < length s = inside s (at + 2) (omega (arith, l)) in
       record {
         told = ap (λ (k : ℕ). eqb k 32) b ∙ f;
@@ -138,12 +140,12 @@ module _ (s : List ℕ) (at : ℕ) where
         high = omega arith;
       }
 
-  pub end-known : (may x : Bool) (next : ℕ) → endAt s at may ≡ ends x next → Ended s at x next
+  pub end-known : (may x : Bool) (next : ℕ) → endAt s at may ≡ Ends x next → Ended s at x next
   unfolding endAt
   end-known may x next e = lf (eqb (getD s at 0) 10) refl e
     where
       cut : (m sp cx l : Bool) → eqb (getD s at 0) 32 ≡ sp → eqb (getD s (at + 2) 0) 10 ≡ l
-          → pick m (pick sp (pick cx (pick l (ends true (at + 3)) noEnd) noEnd) noEnd) noEnd ≡ ends x next → Ended s at x next
+          → pick m (pick sp (pick cx (pick l (Ends true (at + 3)) (NoEnd (at + 2))) (NoEnd (at + 1))) (NoEnd at)) (NoEnd at) ≡ Ends x next → Ended s at x next
       cut true true true true p q g = end-cut (eqb-true (getD s at 0) 32 p) (eqb-true (getD s (at + 2) 0) 10 q) g
       cut true true true false p q g = absurd (no-end-not g)
       cut true true false l p q g = absurd (no-end-not g)
@@ -151,7 +153,7 @@ module _ (s : List ℕ) (at : ℕ) where
       cut false sp cx l p q g = absurd (no-end-not g)
 
       lf : (b : Bool) → eqb (getD s at 0) 10 ≡ b
-          → pick b (ends false (at + 1)) (pick may (pick (eqb (getD s at 0) 32) (pick (eqb (getD s (at + 1) 0) 88) (pick (eqb (getD s (at + 2) 0) 10) (ends true (at + 3)) noEnd) noEnd) noEnd) noEnd) ≡ ends x next
+          → pick b (Ends false (at + 1)) (pick may (pick (eqb (getD s at 0) 32) (pick (eqb (getD s (at + 1) 0) 88) (pick (eqb (getD s (at + 2) 0) 10) (Ends true (at + 3)) (NoEnd (at + 2))) (NoEnd (at + 1))) (NoEnd at)) (NoEnd at)) ≡ Ends x next
           → Ended s at x next
       lf true p g = end-plain (eqb-true (getD s at 0) 10 p) g
       lf false p g = cut may (eqb (getD s at 0) 32) (eqb (getD s (at + 1) 0) 88) (eqb (getD s (at + 2) 0) 10) refl refl g
@@ -175,7 +177,7 @@ pub record Chain (s : List ℕ) (at : ℕ) (x : Step) (next : ℕ) : Type 0 wher
   pub one : nextNumber s (at + 1) true ≡ Value first n
   pub two : nextNumber s n (ltb 1 (numbersAfter (getD s at 0))) ≡ Value second m
   pub three : nextNumber s m (ltb 2 (numbersAfter (getD s at 0))) ≡ Value third l
-  pub last : endAt s l (mayCut (getD s at 0)) ≡ ends cut next
+  pub last : endAt s l (mayCut (getD s at 0)) ≡ Ends cut next
   pub step : x ≡ stepOf (getD s at 0) first second third cut
   pub here : at < length s
   pub one-inside : n < length s
@@ -192,16 +194,20 @@ letter-here s at h = go (decLt 0 (getD s at 0))
     go (yes p) = inside s at p
     go (no n) = let e : getD s at 0 ≡ 0 = omega arith in absurd (h (rw e))
 
+-- the same of a letter that was read
+pub letter-inside : (s : List ℕ) (at : ℕ) {b count : ℕ} → b ≡ getD s at 0 → count ≡ numbersAfter b → count ≢ 0 → at < length s
+letter-inside s at e f n = letter-here s at (λ z. n (f ∙ ap numbersAfter e ∙ z))
+
 module _ (s : List ℕ) (at : ℕ) (x : Step) (next : ℕ) where
   abbrev c : ℕ
   c = getD s at 0
 
   chain-of : (i n j m r l : ℕ) (z : Bool) (e : ℕ) → numbersAfter c ≢ 0 → nextNumber s (at + 1) true ≡ Value i n → nextNumber s n (ltb 1 (numbersAfter c)) ≡ Value j m
-      → nextNumber s m (ltb 2 (numbersAfter c)) ≡ Value r l → endAt s l (mayCut c) ≡ ends z e → item (stepOf c i j r z) e ≡ item x next → Chain s at x next
+      → nextNumber s m (ltb 2 (numbersAfter c)) ≡ Value r l → endAt s l (mayCut c) ≡ Ends z e → item (stepOf c i j r z) e ≡ item x next → Chain s at x next
   chain-of i n j m r l z e letter one two three last whole =
-      let same : e ≡ next = ap (λ (y : Item Step). onItem y 0 (λ _ k. k)) whole in
-      let step : x ≡ stepOf c i j r z = sym (ap (λ (y : Item Step). onItem y (stepOf c i j r z) (λ k _. k)) whole) in
-      let last′ : endAt s l (mayCut c) ≡ ends z next = last ∙ ap (ends z) same in
+      let same : e ≡ next = ap (λ (y : Item Step). onItem y (λ _. 0) (λ _ k. k)) whole in
+      let step : x ≡ stepOf c i j r z = sym (ap (λ (y : Item Step). onItem y (λ _. stepOf c i j r z) (λ k _. k)) whole) in
+      let last′ : endAt s l (mayCut c) ≡ Ends z next = last ∙ ap (Ends z) same in
       let end = end-known s l (mayCut c) z next last′ in
       let m-in = next-here s m (ltb 2 (numbersAfter c)) r l three (end .here) in
       record {
@@ -226,34 +232,34 @@ module _ (s : List ℕ) (at : ℕ) (x : Step) (next : ℕ) where
       }
 
   pub line-chain : lineAt s at ≡ item x next → Chain s at x next
-  unfolding lineAt afterLetter
+  unfolding lineAt afterLetter endedAt
   line-chain e = letter (eqb (numbersAfter c) 0) refl e
     where
       on-end : (i n j m r l : ℕ) → numbersAfter c ≢ 0 → nextNumber s (at + 1) true ≡ Value i n → nextNumber s n (ltb 1 (numbersAfter c)) ≡ Value j m
           → nextNumber s m (ltb 2 (numbersAfter c)) ≡ Value r l → (k : End) → endAt s l (mayCut c) ≡ k
           → onEnd k broken (λ z e. item (stepOf c i j r z) e) ≡ item x next → Chain s at x next
-      on-end i n j m r l h one two three noEnd p g = absurd (broken-not g)
-      on-end i n j m r l h one two three (ends z e′) p g = chain-of i n j m r l z e′ h one two three p g
+      on-end i n j m r l h one two three (NoEnd q) p g = absurd (broken-not g)
+      on-end i n j m r l h one two three (Ends z e′) p g = chain-of i n j m r l z e′ h one two three p g
 
       on-three : (i n j m : ℕ) → numbersAfter c ≢ 0 → nextNumber s (at + 1) true ≡ Value i n → nextNumber s n (ltb 1 (numbersAfter c)) ≡ Value j m
           → (k : Number) → nextNumber s m (ltb 2 (numbersAfter c)) ≡ k
           → onNumber k broken (λ r l. onEnd (endAt s l (mayCut c)) broken (λ z e. item (stepOf c i j r z) e)) ≡ item x next → Chain s at x next
-      on-three i n j m h one two Bad p g = absurd (broken-not g)
+      on-three i n j m h one two (Bad q) p g = absurd (broken-not g)
       on-three i n j m h one two (Value r l) p g = on-end i n j m r l h one two p (endAt s l (mayCut c)) refl g
 
       on-two : (i n : ℕ) → numbersAfter c ≢ 0 → nextNumber s (at + 1) true ≡ Value i n → (k : Number) → nextNumber s n (ltb 1 (numbersAfter c)) ≡ k
           → onNumber k broken (λ j m. onNumber (nextNumber s m (ltb 2 (numbersAfter c))) broken (λ r l. onEnd (endAt s l (mayCut c)) broken (λ z e. item (stepOf c i j r z) e))) ≡ item x next
           → Chain s at x next
-      on-two i n h one Bad p g = absurd (broken-not g)
+      on-two i n h one (Bad q) p g = absurd (broken-not g)
       on-two i n h one (Value j m) p g = on-three i n j m h one p (nextNumber s m (ltb 2 (numbersAfter c))) refl g
 
       on-one : numbersAfter c ≢ 0 → (k : Number) → nextNumber s (at + 1) true ≡ k
           → onNumber k broken (λ i n. onNumber (nextNumber s n (ltb 1 (numbersAfter c))) broken (λ j m. onNumber (nextNumber s m (ltb 2 (numbersAfter c))) broken (λ r l. onEnd (endAt s l (mayCut c)) broken (λ z e. item (stepOf c i j r z) e)))) ≡ item x next
           → Chain s at x next
-      on-one h Bad p g = absurd (broken-not g)
+      on-one h (Bad q) p g = absurd (broken-not g)
       on-one h (Value i n) p g = on-two i n h p (nextNumber s n (ltb 1 (numbersAfter c))) refl g
 
-      letter : (b : Bool) → eqb (numbersAfter c) 0 ≡ b → pick b broken (afterLetter c s (at + 1)) ≡ item x next → Chain s at x next
+      letter : (b : Bool) → eqb (numbersAfter c) 0 ≡ b → pick b (broken at) (afterLetter c s (at + 1)) ≡ item x next → Chain s at x next
       letter true p g = absurd (broken-not g)
       letter false p g = on-one (eqb-false (numbersAfter c) 0 p) (nextNumber s (at + 1) true) refl g
 

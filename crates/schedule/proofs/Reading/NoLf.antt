@@ -72,33 +72,14 @@ module _ (s : List ℕ) where
   pub line-lf : (at m : ℕ) (st : Step) → lineAt s at ≡ item st m → EndsInLf s at m
   line-lf at m st e = lf-line st at m (line-read s at m st e .1)
 
-  pub value-lf : (at m v : ℕ) → valueAt s at ≡ item v m → EndsInLf s at m
-  value-lf at m v e = lf-behind (spelled v) (10 ∷ []) lf-only at m (value-read s at m v e .1)
+-- where no LF stands from a place on, the line there breaks the form
+pub record NoLine (s : List ℕ) (at : ℕ) : Type 0 where
+  pub stop : ℕ
+  pub is : lineAt s at ≡ broken stop
 
-  pub alone-lf : (at m v : ℕ) → aloneAt s at ≡ Value v m → EndsInLf s at m
-  alone-lf at m v e = lf-spaced v (10 ∷ []) lf-only at m (alone-read s at m v e .1)
-
-module _ (s : List ℕ) (at : ℕ) (none : NoLf s at) where
-  no-end : (m : ℕ) → EndsInLf s at m → ⊥
-  no-end m h = none (m - 1) (omega (arith, h .low)) (h .lf)
-
-  pub no-line : lineAt s at ≡ broken
-  no-line = go (lineAt s at) refl
-    where
-      go : (r : Item Step) → lineAt s at ≡ r → lineAt s at ≡ broken
-      go broken e = e
-      go (item st m) e = absurd (no-end m (line-lf s at m st e))
-
-  pub no-value : valueAt s at ≡ broken
-  no-value = go (valueAt s at) refl
-    where
-      go : (r : Item ℕ) → valueAt s at ≡ r → valueAt s at ≡ broken
-      go broken e = e
-      go (item v m) e = absurd (no-end m (value-lf s at m v e))
-
-  pub no-alone : aloneAt s at ≡ Bad
-  no-alone = go (aloneAt s at) refl
-    where
-      go : (r : Number) → aloneAt s at ≡ r → aloneAt s at ≡ Bad
-      go Bad e = e
-      go (Value v m) e = absurd (no-end m (alone-lf s at m v e))
+pub no-line : (s : List ℕ) (at : ℕ) → NoLf s at → NoLine s at
+no-line s at none = go (lineAt s at) refl
+  where
+    go : (r : Item Step) → lineAt s at ≡ r → NoLine s at
+    go (broken p) e = record { stop = p; is = e }
+    go (item st m) e = let h = line-lf s at m st e in absurd (none (m - 1) (omega (arith, h .low)) (h .lf))

@@ -1,6 +1,6 @@
 -- The laws of reading a whole file: a section's first line, the value lines, the step lines, the two sections of steps and the whole. Assumes nothing.
 use mathlib.Core.Path.{_≡_, refl, sym, ap, ap₂, _∙_, subst}
-use mathlib.Core.Bool.{Bool, true, false, and-false}
+use mathlib.Core.Bool.{Bool, true, false}
 use mathlib.Core.List.{List, [], _∷_, _++_, append-nil, append-assoc}
 use mathlib.Core.Logic.{_≢_}
 use native.Mathlib.Omega.{arith}
@@ -13,20 +13,19 @@ use lib.Seq.{take-suc-set, length-take-le}
 use borrow.Author.Tests.{eq-eqb, ne-eqb, le-leb, lt-leb}
 use Rattle.rules.specs.Limits.{greatestSize, among}
 use Rattle.rules.specs.declared.step.Step.{Step}
-use Rattle.rules.proofs.Cited.{among-in}
+use Rattle.rules.proofs.Cited.{among-true}
 use Rattle.schedule.specs.Limits.{longest, mostSteps}
 use Rattle.text.specs.Number.{numberAt}
 use Rattle.schedule.specs.Lines.{Item, broken, item, onItem, Items, brokenAt, items, before, linesAt}
-use Rattle.schedule.specs.Line.{onNumber, closed, lineAt, asLine}
-use Rattle.schedule.specs.Header.{wordAt, aloneAt, headerAt, valuesWord, warmupWord, measuredWord}
+use Rattle.schedule.specs.Line.{onNumber, closed, lineOf, lineAt}
+use Rattle.schedule.specs.Header.{wordAt, aloneAt, headerAt, countAt, valuesWord, warmupWord, measuredWord}
 use Rattle.schedule.specs.Values.{valueAt}
-use Rattle.schedule.specs.Schedule.{faulty, faultAt, noFault, noPart, part, partAt, measuredFrom, warmupFrom, valuesFrom, readFile}
-use Rattle.schedule.specs.Private.{LastLf, placeAfter, linesEnd, numberOf, valuesRead, KnownLine, PartGood, PartIs, OpeningGood, OpeningIs, ValuesAre, StepsAre, FormCase, FormIs}
+use Rattle.schedule.specs.Schedule.{sectionOf, faulty, faultAt, noFault, tooLong, noPart, part, partAt, measuredFrom, warmupFrom, valuesFrom, readFile}
+use Rattle.schedule.specs.Private.{LastLf, placeAfter, stopOf, linesEnd, numberOf, valuesRead, PartGood, PartIs, OpeningGood, OpeningIs, ValuesAre, StepsAre, FormCase, FormIs}
 use Rattle.text.specs.declared.number.Number.{Number}
 use Rattle.text.specs.declared.number.Number.the-variants.{Bad, Value}
 use Rattle.schedule.specs.declared.header.Word.{Word}
 use Rattle.schedule.specs.declared.header.Word.the-variants.{Missing, Past}
-use Rattle.schedule.specs.declared.line.Line.{Line}
 use Rattle.schedule.specs.declared.section.Lines.{Lines}
 use Rattle.schedule.specs.declared.values.Values.{Values}
 use Rattle.schedule.specs.declared.part.Part.{Part as PartFound}
@@ -35,14 +34,16 @@ use Rattle.schedule.specs.declared.file.Opening.{Opening}
 use Rattle.schedule.specs.declared.file.Places.{Places}
 use Rattle.schedule.specs.declared.file.Sections.{Sections}
 use Rattle.schedule.specs.declared.file.Form.{Form}
-use Rattle.schedule.proofs.Reading.InARow.{one-less, end-broken, end-more, end-none, found, faulted, lines-long, broken-below}
-use Rattle.schedule.proofs.RoundTrip.File.{part-got, read-got, values-got, warmup-got, measured-got}
-use Rattle.schedule.proofs.Reading.NoLf.{line-lf, no-line, no-value, no-alone}
+use Rattle.schedule.proofs.Reading.InARow.{one-less, end-broken, end-more, end-none, found, faulted, lines-long, lines-ahead, broken-below}
+use Rattle.schedule.proofs.RoundTrip.File.{part-got, part-read, read-got, read-long, values-got, warmup-got, measured-got, opened}
+use Rattle.text.proofs.StandsLaws.{stands-high}
+use Rattle.schedule.proofs.Reading.NoLf.{line-lf, NoLine, no-line}
+use Rattle.schedule.proofs.Reading.Bounds.{header-within, header-high, count-high, steps-within, values-within}
 
 -- ---- a section's first line
 
 module _ (s : List ℕ) (at : ℕ) (w : List ℕ) {r : Word} (e : r ≡ wordAt s at w) where
-  pub header-missing : r ≡ Missing → Bad ≡ headerAt s at w
+  pub header-missing : {p : ℕ} → r ≡ Missing p → Bad p ≡ headerAt s at w
   unfolding headerAt
   header-missing g = rw (sym e, g)
 
@@ -50,19 +51,11 @@ module _ (s : List ℕ) (at : ℕ) (w : List ℕ) {r : Word} (e : r ≡ wordAt s
   unfolding headerAt
   header-past {n} {k} g a = a ∙ rw (sym e, g)
 
-  -- behind the last LF there is no line
-  pub header-late : {n end : ℕ} → LastLf s end → r ≡ Past n → end ≤ n → Bad ≡ headerAt s at w
-  header-late {n} {end} l g h = header-past g (sym (no-alone s n (λ j q. l .none j (omega arith))))
-
 -- ---- a value line
-
-pub value-late : {s : List ℕ} {end : ℕ} (at : ℕ) → LastLf s end → end ≤ at → Bad ≡ numberOf (valueAt s at)
-unfolding numberOf
-value-late {s} {end} at l h = rw (no-value s at (λ j q. l .none j (omega arith)))
 
 item-closed : (r : Number) → r ≡ numberOf (onNumber r broken item)
 unfolding numberOf
-item-closed Bad = refl
+item-closed (Bad p) = refl
 item-closed (Value v n) = refl
 
 pub value-closed : (s : List ℕ) (at : ℕ) {r k : Number} → r ≡ numberAt s at → k ≡ closed s r → k ≡ numberOf (valueAt s at)
@@ -73,27 +66,27 @@ value-closed s at e f = f ∙ ap (closed s) e ∙ item-closed (closed s (numberA
 
 -- xs in front of what the other lines hold
 unfoldable pub prepended : {A : Type 0} → List A → Items A → Items A
-prepended xs (brokenAt i) = brokenAt i
+prepended xs (brokenAt i from p) = brokenAt i from p
 prepended xs (items ys m) = items (xs ++ ys) m
 
 prepended-none : {A : Type 0} (r : Items A) → r ≡ prepended [] r
 unfolding prepended
-prepended-none (brokenAt i) = refl
+prepended-none (brokenAt i from p) = refl
 prepended-none (items ys m) = refl
 
 prepended-before : {A : Type 0} (xs : List A) (x : A) (r : Items A) → prepended xs (before x r) ≡ prepended (xs ++ (x ∷ [])) r
 unfolding prepended before
-prepended-before xs x (brokenAt i) = refl
+prepended-before xs x (brokenAt i from p) = refl
 prepended-before xs x (items ys m) = ap (λ (l : List _). items l m) (sym (append-assoc xs (x ∷ []) ys))
 
-number-broken : (r : Item ℕ) → Bad ≡ numberOf r → r ≡ broken
+number-broken : (r : Item ℕ) (p : ℕ) → Bad p ≡ numberOf r → r ≡ broken p
 unfolding numberOf
-number-broken broken e = refl
-number-broken (item v m) e = let z : _≡_ {A = ℕ} 0 1 = cc in absurd (omega arith)
+number-broken (broken q) p e = ap broken (ap (λ (x : Number). onNumber x (λ k. k) (λ _ _. 0)) (sym e))
+number-broken (item v m) p e = let z : _≡_ {A = ℕ} 0 1 = cc in absurd (omega arith)
 
 number-item : (r : Item ℕ) (v m : ℕ) → Value v m ≡ numberOf r → r ≡ item v m
 unfolding numberOf
-number-item broken v m e = let z : _≡_ {A = ℕ} 0 1 = cc in absurd (omega arith)
+number-item (broken p) v m e = let z : _≡_ {A = ℕ} 0 1 = cc in absurd (omega arith)
 number-item (item u k) v m e = let p : v ≡ u = cc in let q : m ≡ k = cc in cc
 
 -- i of n values are read into the array; the other lines begin at place
@@ -110,17 +103,17 @@ filling-none {s} {at} {n} {values} h l =
 module _ {s : List ℕ} {at n : ℕ} {values : List ℕ} {i place : ℕ} (h : Filling s at n values i place) where
   module _ {r : Number} (less : i < n) (e : r ≡ numberOf (valueAt s place)) where
     lines-here : (k : Item ℕ) → valueAt s place ≡ k
-        → linesAt (valueAt s) (n - i) i place ≡ onItem k (brokenAt i) (λ x m. before x (linesAt (valueAt s) (n - (i + 1)) (i + 1) m))
+        → linesAt (valueAt s) (n - i) i place ≡ onItem k (brokenAt i place) (λ x m. before x (linesAt (valueAt s) (n - (i + 1)) (i + 1) m))
     unfolding linesAt
     lines-here k f =
         ap (λ (j : ℕ). linesAt (valueAt s) j i place) (one-less n i less)
-        ∙ ap (λ (j : Item ℕ). onItem j (brokenAt i) (λ x m. before x (linesAt (valueAt s) (n - (i + 1)) (i + 1) m))) f
+        ∙ ap (λ (j : Item ℕ). onItem j (brokenAt i place) (λ x m. before x (linesAt (valueAt s) (n - (i + 1)) (i + 1) m))) f
 
     -- a faulty line
-    pub filling-broken : r ≡ Bad → linesAt (valueAt s) n 0 at ≡ valuesRead n (record { values = values; read = i; next = place })
+    pub filling-broken : {p : ℕ} → r ≡ Bad p → linesAt (valueAt s) n 0 at ≡ valuesRead n (record { values = values; read = i; next = place; stop = p })
     unfolding prepended valuesRead
-    filling-broken g =
-        h .is ∙ ap (prepended (take i values)) (lines-here broken (number-broken (valueAt s place) (sym g ∙ e)))
+    filling-broken {p} g =
+        h .is ∙ ap (prepended (take i values)) (lines-here (broken p) (number-broken (valueAt s place) p (sym g ∙ e)))
         ∙ rw (ne-eqb i n (λ z. omega arith))
 
     -- one more value
@@ -138,7 +131,7 @@ module _ {s : List ℕ} {at n : ℕ} {values : List ℕ} {i place : ℕ} (h : Fi
         }
 
   -- all values are read
-  pub filling-done : n ≤ i → linesAt (valueAt s) n 0 at ≡ valuesRead n (record { values = values; read = i; next = place })
+  pub filling-done : n ≤ i → linesAt (valueAt s) n 0 at ≡ valuesRead n (record { values = values; read = i; next = place; stop = place })
   unfolding prepended valuesRead linesAt
   filling-done d =
       let q : i ≡ n = omega (arith, h .low) in
@@ -157,17 +150,11 @@ pub record Checking (s : List ℕ) (at count i place : ℕ) : Type 0 where
 pub checking-none : (s : List ℕ) (at count : ℕ) → Checking s at count 0 at
 checking-none s at count = record { low = omega arith; is = ap (λ (k : ℕ). linesEnd (linesAt (lineAt s) k 0 at)) (omega arith) }
 
--- ---- any step line
-
 -- a line that is read ends past its place, so that 0 says that it breaks the form
-pub line-fails : (s : List ℕ) (place : ℕ) (r : Item Step) → lineAt s place ≡ r → placeAfter r ≡ 0 → lineAt s place ≡ broken
+line-fails : (s : List ℕ) (place : ℕ) (r : Item Step) → lineAt s place ≡ r → placeAfter r ≡ 0 → NoLine s place
 unfolding placeAfter
-line-fails s place broken f e = f
+line-fails s place (broken p) f e = record { stop = p; is = f }
 line-fails s place (item x m) f e = let k = line-lf s place m x f .low in absurd (omega arith)
-
-pub line-fault : (s : List ℕ) (at : ℕ) → lineAt s at ≡ broken → Line.Bad ≡ asLine (lineAt s at)
-unfolding asLine
-line-fault s at e = rw e
 
 record Stood (r : Item Step) (m : ℕ) : Type 0 where
   step : Step
@@ -175,25 +162,18 @@ record Stood (r : Item Step) (m : ℕ) : Type 0 where
 
 line-stood : (r : Item Step) → placeAfter r ≢ 0 → Stood r (placeAfter r)
 unfolding placeAfter
-line-stood broken n = absurd (n refl)
+line-stood (broken p) n = absurd (n refl)
 line-stood (item x m) n = record { step = x; is = refl }
-
-pub line-known : (s : List ℕ) (at : ℕ) → placeAfter (lineAt s at) ≢ 0 → KnownLine s at
-line-known s at n = let k = line-stood (lineAt s at) n in record { step = k .step; next = placeAfter (lineAt s at); is = k .is }
-
-pub line-taken : (s : List ℕ) (at : ℕ) {x : Step} {m : ℕ} → lineAt s at ≡ item x m → Line.Good x m ≡ asLine (lineAt s at)
-unfolding asLine
-line-taken s at e = rw e
 
 module _ {s : List ℕ} {at count i place : ℕ} (h : Checking s at count i place) where
   -- no line stands behind the last LF
-  pub checking-late : {end : ℕ} → LastLf s end → i < count → end ≤ place → Lines.Fault i ≡ linesEnd (linesAt (lineAt s) count 0 at)
-  checking-late {end} l less q = sym (h .is ∙ end-broken (lineAt s) count i place less (no-line s place (λ j p. l .none j (omega arith))))
+  pub checking-late : {end : ℕ} → LastLf s end → i < count → end ≤ place → Lines.Fault i place ≡ linesEnd (linesAt (lineAt s) count 0 at)
+  checking-late {end} l less q = sym (h .is ∙ end-broken (lineAt s) count i place less (no-line s place (λ j p. l .none j (omega arith)) .is))
 
   module _ {m : ℕ} (less : i < count) (e : m ≡ placeAfter (lineAt s place)) where
     -- a faulty line
-    pub checking-broken : m ≡ 0 → Lines.Fault i ≡ linesEnd (linesAt (lineAt s) count 0 at)
-    checking-broken z = sym (h .is ∙ end-broken (lineAt s) count i place less (line-fails s place (lineAt s place) refl (sym e ∙ z)))
+    pub checking-broken : m ≡ 0 → Lines.Fault i place ≡ linesEnd (linesAt (lineAt s) count 0 at)
+    checking-broken z = sym (h .is ∙ end-broken (lineAt s) count i place less (line-fails s place (lineAt s place) refl (sym e ∙ z) .is))
 
     -- one more line
     pub checking-on : m ≢ 0 → Checking s at count (i + 1) m
@@ -207,25 +187,43 @@ module _ {s : List ℕ} {at count i place : ℕ} (h : Checking s at count i plac
 
 -- ---- a section of steps
 
+-- what stops reading a line that breaks the form is the place where it does
+stop-is : {r : Item Step} {p stop : ℕ} → r ≡ broken p → stop ≡ stopOf r → stop ≡ p
+unfolding stopOf
+stop-is e f = f ∙ rw e
+
 module _ (s : List ℕ) (at : ℕ) (w : List ℕ) (line left : ℕ) {r : Number} (e : r ≡ headerAt s at w) where
-  pub part-none : r ≡ Bad → PartIs s at w line left (PartFound.Bad (faultAt 9 line))
-  unfolding PartIs partAt
-  part-none g = (omega arith, rw (sym e, g))
+  part-fault : (number row from place : ℕ) (f : Fault) → 1 ≤ number → f ≡ faultAt number row from place → partAt s at w line left ≡ noPart (faultAt number row from place)
+      → PartIs s at w line left (PartFound.Bad f)
+  unfolding PartIs
+  part-fault number row from place f some is q =
+      let same : f .number ≡ number = ap (λ (x : Fault). x .number) is in
+      (omega arith, q ∙ ap noPart (sym is))
+
+  pub part-none : {p : ℕ} {f : Fault} → r ≡ Bad p → f ≡ faultAt 9 line at p → PartIs s at w line left (PartFound.Bad f)
+  unfolding partAt
+  part-none {p} {f} g is = part-fault 9 line at p f (omega arith) is (rw (sym e, g))
 
   module _ {k a : ℕ} (g : r ≡ Value k a) where
-    pub part-many : left < k → PartIs s at w line left (PartFound.Bad (faultAt 10 line))
-    unfolding PartIs partAt
-    part-many h = (omega arith, rw (sym e, g, lt-leb k left h))
+    pub part-many : {f : Fault} → left < k → f ≡ faultAt 10 line at (countAt at w) → PartIs s at w line left (PartFound.Bad f)
+    unfolding partAt
+    part-many {f} h is = part-fault 10 line at (countAt at w) f (omega arith) is (rw (sym e, g, lt-leb k left h))
 
-    module _ {c : Lines} (h : k ≤ left) (f : c ≡ linesEnd (linesAt (lineAt s) k 0 a)) where
-      pub part-broken : {i : ℕ} → c ≡ Lines.Fault i → PartIs s at w line left (PartFound.Bad (faultAt 9 (line + 1 + i)))
-      unfolding PartIs partAt
-      part-broken {i} q = (omega arith, rw (sym e, g, le-leb k left h, faulted (linesAt (lineAt s) k 0 a) i (sym f ∙ q)))
+    module _ {c : Lines} (h : k ≤ left) (q : c ≡ linesEnd (linesAt (lineAt s) k 0 a)) where
+      pub part-broken : {i from stop : ℕ} {f : Fault} → c ≡ Lines.Fault i from → stop ≡ stopOf (lineAt s from) → f ≡ faultAt 9 (line + 1 + i) from stop
+          → PartIs s at w line left (PartFound.Bad f)
+      unfolding partAt
+      part-broken {i} {from} {stop} {f} x y is =
+          let b = faulted (linesAt (lineAt s) k 0 a) i from (sym q ∙ x) in
+          let here = lines-ahead (lineAt s) i from (b .stop) k 0 a (b .is) .broke in
+          let same : stop ≡ b .stop = stop-is here y in
+          part-fault 9 (line + 1 + i) from stop f (omega arith) is
+          (rw (sym e, g, le-leb k left h, b .is) (ap (λ (p : ℕ). noPart (faultAt 9 (line + 1 + i) from p)) (sym same)))
 
       pub part-good : {m : ℕ} → c ≡ Lines.Good m → PartIs s at w line left (PartFound.Good k a m)
       unfolding PartIs
-      part-good {m} q =
-          let d = found (linesAt (lineAt s) k 0 a) m (sym f ∙ q) in
+      part-good {m} x =
+          let d = found (linesAt (lineAt s) k 0 a) m (sym q ∙ x) in
           record {
             steps = d .things;
             are = record { are = d .is; long = lines-long (lineAt s) k 0 a (d .things) m (d .is) };
@@ -233,9 +231,28 @@ module _ (s : List ℕ) (at : ℕ) (w : List ℕ) (line left : ℕ) {r : Number}
             is = part-got s at w line left (d .things) k a m (sym e ∙ g) h (d .is);
           }
 
+-- the fault of a section is within its line
+module _ (s : List ℕ) (at : ℕ) (w : List ℕ) {r : Number} (e : r ≡ headerAt s at w) (high : at ≤ length s) (short : length s ≤ longest) where
+  pub part-place : {p : ℕ} → r ≡ Bad p → (at ≤ p) × (p ≤ longest)
+  part-place g = let h = header-within s at w high (sym e ∙ g) in (h .0, omega (arith, h .1))
+
+  module _ {k a : ℕ} (g : r ≡ Value k a) where
+    pub part-count : countAt at w ≤ longest
+    part-count = omega (arith, count-high s at w high (sym e ∙ g))
+
+    pub part-stop : {c : Lines} {i from stop : ℕ} → c ≡ linesEnd (linesAt (lineAt s) k 0 a) → c ≡ Lines.Fault i from → stop ≡ stopOf (lineAt s from)
+        → (from ≤ stop) × (stop ≤ longest)
+    part-stop {c} {i} {from} {stop} q x y =
+        let b = faulted (linesAt (lineAt s) k 0 a) i from (sym q ∙ x) in
+        let same : stop ≡ b .stop = stop-is (lines-ahead (lineAt s) i from (b .stop) k 0 a (b .is) .broke) y in
+        let h = steps-within s k 0 a i from (b .stop) (b .is) (header-high s at w high (sym e ∙ g)) in
+        (omega (arith, h .0), omega (arith, h .1))
+
 -- the faulty line is one of the section's
-pub fault-below : (s : List ℕ) (k a : ℕ) {i : ℕ} {c : Lines} → c ≡ linesEnd (linesAt (lineAt s) k 0 a) → c ≡ Lines.Fault i → i < k
-fault-below s k a {i} f q = omega (arith, broken-below (lineAt s) k 0 a i (faulted (linesAt (lineAt s) k 0 a) i (sym f ∙ q)))
+pub fault-below : (s : List ℕ) (k a : ℕ) {i from : ℕ} {c : Lines} → c ≡ linesEnd (linesAt (lineAt s) k 0 a) → c ≡ Lines.Fault i from → i < k
+fault-below s k a {i} {from} f q =
+    let b = faulted (linesAt (lineAt s) k 0 a) i from (sym f ∙ q) in
+    omega (arith, broken-below (lineAt s) k 0 a i from (b .stop) (b .is))
 
 -- ---- the two sections of steps
 
@@ -249,9 +266,13 @@ unfolding measuredFrom
 measured-fault s vs ws at f e = rw e
 
 measured-more : (s vs : List ℕ) (ws ms : List Step) (at m : ℕ) → partAt s at measuredWord (length vs + length ws + 3) (mostSteps - length ws) ≡ part ms m → m ≢ length s
-    → measuredFrom s vs ws at ≡ faulty (faultAt 9 (length vs + length ws + length ms + 4))
+    → measuredFrom s vs ws at ≡ faulty (faultAt 9 (length vs + length ws + length ms + 4) m m)
 unfolding measuredFrom
 measured-more s vs ws ms at m e h = rw (e, ne-eqb m (length s) h)
+
+-- a section that is read ends within the file
+part-high : (s : List ℕ) (at : ℕ) (w : List ℕ) (line left k a m : ℕ) → PartGood s at w line left k a m → at ≤ length s → m ≤ length s
+part-high s at w line left k a m g h = stands-high s at m (sectionOf w lineOf (g .steps)) (part-read s at w line left (g .steps) m (g .is) .stands) h
 
 module _ (s : List ℕ) (n at : ℕ) {p : PartFound} (e : PartIs s at warmupWord (n + 2) mostSteps p) where
   pub sections-none : {f : Fault} → p ≡ PartFound.Bad f → StepsAre s n at (Sections.Bad f)
@@ -264,6 +285,9 @@ module _ (s : List ℕ) (n at : ℕ) {p : PartFound} (e : PartIs s at warmupWord
     warmup-part : PartGood s at warmupWord (n + 2) mostSteps k a m
     unfolding PartIs
     warmup-part = subst (PartIs s at warmupWord (n + 2) mostSteps) g e
+
+    pub warmup-high : at ≤ length s → m ≤ length s
+    warmup-high h = part-high s at warmupWord (n + 2) mostSteps k a m warmup-part h
 
     pub warmup-few : k ≤ mostSteps
     warmup-few = warmup-part .few
@@ -287,6 +311,9 @@ module _ (s : List ℕ) (n at : ℕ) {p : PartFound} (e : PartIs s at warmupWord
         unfolding PartIs
         measured-part = subst (PartIs s m measuredWord (n + k + 3) (mostSteps - k)) d f
 
+        pub measured-high : at ≤ length s → z ≤ length s
+        measured-high h = part-high s m measuredWord (n + k + 3) (mostSteps - k) j b z measured-part (warmup-high h)
+
         pub measured-few : k + j ≤ mostSteps
         measured-few = omega (arith, warmup-few, measured-part .few)
 
@@ -294,13 +321,13 @@ module _ (s : List ℕ) (n at : ℕ) {p : PartFound} (e : PartIs s at warmupWord
         same-line vs l = omega (arith, l, warmup-part .are .long, measured-part .are .long)
 
         -- a line follows the last step
-        pub sections-more : z ≢ length s → StepsAre s n at (Sections.Bad (faultAt 9 (n + k + j + 4)))
+        pub sections-more : {g : Fault} → z ≢ length s → g ≡ faultAt 9 (n + k + j + 4) z z → StepsAre s n at (Sections.Bad g)
         unfolding StepsAre
-        sections-more h = (
-          omega arith,
+        sections-more {g} h is = (
+          subst (λ (x : ℕ). 1 ≤ x) (sym (ap (λ (x : Fault). x .number) is)) (omega arith),
           λ vs l. to-measured vs l
               ∙ measured-more s vs (warmup-part .steps) (measured-part .steps) m z (same-part vs l ∙ measured-part .is) h
-              ∙ ap (λ (i : ℕ). faulty (faultAt 9 i)) (same-line vs l),
+              ∙ ap (λ (i : ℕ). faulty (faultAt 9 i z z)) (same-line vs l) ∙ ap faulty (sym is),
         )
 
         pub sections-good : z ≡ length s → StepsAre s n at (Sections.Good (record { warmup = k; start = a; measured = j; middle = b }))
@@ -319,43 +346,35 @@ module _ (s : List ℕ) (n at : ℕ) {p : PartFound} (e : PartIs s at warmupWord
 
 -- ---- the opening
 
-among-zero : (n : ℕ) → n ≡ 0 → among greatestSize n ≡ false
-unfolding among
-among-zero n e = rw e
-
-among-past : (n : ℕ) → greatestSize < n → among greatestSize n ≡ false
-unfolding among
-among-past n h = rw (lt-leb n 16 h) (and-false (leb 1 n))
+pub size-few : (n : ℕ) {b : Bool} → b ≡ among greatestSize n → b ≡ true → n ≤ greatestSize
+size-few n e f = among-true greatestSize n (sym e ∙ f) .1
 
 module _ (s : List ℕ) (o : Opening) where
-  opening-fault : (number line : ℕ) → o .fault ≡ faultAt number line → 1 ≤ number → valuesFrom s ≡ faulty (faultAt number line) → ValuesAre s o
+  opening-fault : (number line from place : ℕ) → o .fault ≡ faultAt number line from place → 1 ≤ number → valuesFrom s ≡ faulty (faultAt number line from place) → ValuesAre s o
   unfolding ValuesAre OpeningIs
-  opening-fault number line e h f =
+  opening-fault number line from place e h f =
       let same : o .fault .number ≡ number = ap (λ (x : Fault). x .number) e in
       subst (λ (x : Bool). OpeningIs x s o) (sym (ne-eqb (o .fault .number) 0 (λ z. omega arith))) (f ∙ ap faulty (sym e))
 
 module _ (s : List ℕ) {r : Number} (e : r ≡ headerAt s 0 valuesWord) where
-  pub opening-none : (o : Opening) → r ≡ Bad → o .fault ≡ faultAt 9 1 → ValuesAre s o
+  pub opening-none : (o : Opening) {p : ℕ} → r ≡ Bad p → o .fault ≡ faultAt 9 1 0 p → ValuesAre s o
   unfolding valuesFrom
-  opening-none o g f = opening-fault s o 9 1 f (omega arith) (rw (sym e, g))
+  opening-none o {p} g f = opening-fault s o 9 1 0 p f (omega arith) (rw (sym e, g))
 
   module _ {n a : ℕ} (g : r ≡ Value n a) where
-    wrong-size : among greatestSize n ≡ false → valuesFrom s ≡ faulty (faultAt 1 1)
+    wrong-size : among greatestSize n ≡ false → valuesFrom s ≡ faulty (faultAt 1 1 0 (countAt 0 valuesWord))
     unfolding valuesFrom
     wrong-size h = rw (sym e, g, h)
 
     -- not 1 to 16 values
-    pub opening-zero : (o : Opening) → n ≡ 0 → o .fault ≡ faultAt 1 1 → ValuesAre s o
-    opening-zero o h f = opening-fault s o 1 1 f (omega arith) (wrong-size (among-zero n h))
+    pub opening-size : (o : Opening) {b : Bool} → b ≡ among greatestSize n → b ≡ false → o .fault ≡ faultAt 1 1 0 (countAt 0 valuesWord) → ValuesAre s o
+    opening-size o h z f = opening-fault s o 1 1 0 (countAt 0 valuesWord) f (omega arith) (wrong-size (sym h ∙ z))
 
-    pub opening-past : (o : Opening) → greatestSize < n → o .fault ≡ faultAt 1 1 → ValuesAre s o
-    opening-past o h f = opening-fault s o 1 1 f (omega arith) (wrong-size (among-past n h))
-
-    module _ (low : n ≢ 0) (high : n ≤ greatestSize) (v : Values) (are : linesAt (valueAt s) n 0 a ≡ valuesRead n v) where
+    module _ {b : Bool} (sized : b ≡ among greatestSize n) (fits : b ≡ true) (v : Values) (are : linesAt (valueAt s) n 0 a ≡ valuesRead n v) where
       size : among greatestSize n ≡ true
-      size = among-in greatestSize n (omega (arith, low)) high
+      size = sym sized ∙ fits
 
-      broken-read : v .read ≢ n → linesAt (valueAt s) n 0 a ≡ brokenAt (v .read)
+      broken-read : v .read ≢ n → linesAt (valueAt s) n 0 a ≡ brokenAt (v .read) (v .next) (v .stop)
       unfolding valuesRead
       broken-read h = are ∙ rw (ne-eqb (v .read) n h)
 
@@ -364,37 +383,42 @@ module _ (s : List ℕ) {r : Number} (e : r ≡ headerAt s 0 valuesWord) where
         where
           go : Dec (v .read ≡ n) → v .read ≡ n
           go (yes z) = z
-          go (no z) = absurd (omega (arith, broken-below (valueAt s) n 0 a (v .read) (broken-read z)))
+          go (no z) = absurd (omega (arith, broken-below (valueAt s) n 0 a (v .read) (v .next) (v .stop) (broken-read z)))
 
       -- a faulty line
-      pub opening-broken : (o : Opening) → v .read < n → o .fault ≡ faultAt 9 (2 + v .read) → ValuesAre s o
+      pub opening-stop : length s ≤ longest → v .read < n → (v .next ≤ v .stop) × (v .stop ≤ longest)
+      opening-stop short h =
+          let w = values-within s n 0 a (v .read) (v .next) (v .stop) (broken-read (λ z. omega arith)) (header-high s 0 valuesWord (omega arith) (sym e ∙ g)) in
+          (w .0, omega (arith, w .1))
+
+      pub opening-broken : (o : Opening) → v .read < n → o .fault ≡ faultAt 9 (2 + v .read) (v .next) (v .stop) → ValuesAre s o
       unfolding valuesFrom
-      opening-broken o h f = opening-fault s o 9 (2 + v .read) f (omega arith) (rw (sym e, g, size, broken-read (λ z. omega arith)))
+      opening-broken o h f = opening-fault s o 9 (2 + v .read) (v .next) (v .stop) f (omega arith) (rw (sym e, g, size, broken-read (λ z. omega arith)))
 
       pub opening-good : {f : Fault} → n ≤ v .read → f ≡ noFault → ValuesAre s (record { fault = f; n = n; values = v .values; at = v .next })
       unfolding ValuesAre OpeningIs valuesRead
       opening-good {f} h q =
+          let all : linesAt (valueAt s) n 0 a ≡ items (take n (v .values)) (v .next) = are ∙ rw (eq-eqb (v .read) n (read-all h)) in
+          let range = among-true greatestSize n size in
+          let up = opened s n a (take n (v .values)) (v .next) (sym e ∙ g) range all in
           subst (λ (x : Bool). OpeningIs x s (record { fault = f; n = n; values = v .values; at = v .next }))
           (sym (eq-eqb (f .number) 0 (ap (λ (x : Fault). x .number) q)))
           (record {
-            low = omega (arith, low);
-            high = high;
-            is = values-got s (take n (v .values)) n a (v .next) (sym e ∙ g) size (are ∙ rw (eq-eqb (v .read) n (read-all h)));
+            low = range .0;
+            high = range .1;
+            within = stands-high s 0 (v .next) _ (up .stands) (omega arith);
+            is = values-got s (take n (v .values)) n a (v .next) (sym e ∙ g) size all;
           })
 
 -- ---- the whole file
-
-read-long : (s : List ℕ) → longest < length s → readFile s ≡ faulty (faultAt 10 0)
-unfolding readFile
-read-long s h = rw (lt-leb (length s) longest h)
 
 form-fault : (s : List ℕ) (r : Form) (f : Fault) → r .fault ≡ f → f .number ≢ 0 → readFile s ≡ faulty f → FormIs s r
 unfolding FormIs FormCase
 form-fault s r f e h q =
     subst (λ (x : Bool). FormCase x s r) (sym (ne-eqb (r .fault .number) 0 (λ z. h (sym (ap (λ (y : Fault). y .number) e) ∙ z)))) (q ∙ ap faulty (sym e))
 
-pub form-long : (s : List ℕ) (r : Form) → longest < length s → r .fault ≡ faultAt 10 0 → FormIs s r
-form-long s r h e = form-fault s r (faultAt 10 0) e (λ z. omega arith) (read-long s h)
+pub form-long : (s : List ℕ) (r : Form) → longest < length s → r .fault ≡ tooLong → FormIs s r
+form-long s r h e = form-fault s r tooLong e (λ z. omega arith) (read-long s h)
 
 module _ (s : List ℕ) (o : Opening) (e : ValuesAre s o) where
   pub form-opening : (r : Form) → length s ≤ longest → o .fault .number ≢ 0 → r .fault ≡ o .fault → FormIs s r
@@ -408,6 +432,9 @@ module _ (s : List ℕ) (o : Opening) (e : ValuesAre s o) where
 
     pub opening-few : o .n ≤ 16
     opening-few = opening .high
+
+    pub opening-within : o .at ≤ length s
+    opening-within = opening .within
 
     module _ (short : length s ≤ longest) (long : length (o .values) ≡ 16) where
       to-warmup : readFile s ≡ warmupFrom s (take (o .n) (o .values)) (o .at)

@@ -4,23 +4,23 @@ use mathlib.Core.Path.{_≡_, refl, sym, ap, _∙_, subst}
 use mathlib.Core.Bool.{Bool, true, false}
 use mathlib.Core.List.{List, _++_, append-nil}
 use mathlib.Core.Logic.{_⊎_, inl, inr}
-use Prim.Native.Nat.{ℕ, _+_, _-_, _≤_}
+use Prim.Native.Nat.{ℕ, _+_, _-_, _≤_, _<_}
 use native.Mathlib.Omega.{arith}
 use lib.Dec.{eqb, leb}
 use lib.ListN.{length}
 use lib.Seq.{drop-length}
-use borrow.Author.Tests.{le-leb, leb-true, eq-eqb, eqb-true}
+use borrow.Author.Tests.{le-leb, lt-leb, leb-true, eq-eqb, eqb-true}
 use Rattle.rules.specs.Limits.{greatestSize, among}
 use Rattle.rules.specs.declared.step.Step.{Step}
 use Rattle.rules.proofs.Cited.{among-true, among-in}
 use Rattle.schedule.specs.Limits.{longest, mostSteps}
 use Rattle.text.specs.Number.{pick, most}
 use Rattle.text.specs.Stands.{Stands}
-use Rattle.schedule.specs.Lines.{Items, brokenAt, items, onItems, linesAt, linesOf}
+use Rattle.schedule.specs.Lines.{Item, item, Items, brokenAt, items, onItems, linesAt, linesOf}
 use Rattle.schedule.specs.Line.{onNumber, lineAt, lineOf, Holdable}
-use Rattle.schedule.specs.Header.{headerAt, headerOf, valuesWord, warmupWord, measuredWord}
+use Rattle.schedule.specs.Header.{headerAt, headerOf, countAt, valuesWord, warmupWord, measuredWord}
 use Rattle.schedule.specs.Values.{valueAt, valueLine}
-use Rattle.schedule.specs.Schedule.{Schedule, sectionOf, fileOf, Fits, Reading, faulty, sound, faultAt, Part, noPart, part, onPart, partAt, measuredFrom, warmupFrom, valuesFrom, readFile}
+use Rattle.schedule.specs.Schedule.{Schedule, sectionOf, fileOf, Fits, Reading, faulty, sound, faultAt, tooLong, Part, noPart, part, onPart, partAt, measuredFrom, warmupFrom, valuesFrom, readFile}
 use Rattle.schedule.specs.Lines.{Every}
 use Rattle.schedule.specs.declared.fault.Fault.{Fault}
 use Rattle.text.specs.declared.number.Number.{Number}
@@ -45,14 +45,24 @@ stands-whole s l p = p .here ∙ ap (λ (t : List ℕ). l ++ t) (drop-length s) 
 pub record Numbered (f : Fault) : Type 0 where
   pub is : (f .number ≡ 9) ⊎ ((f .number ≡ 1) ⊎ (f .number ≡ 10))
 
-nine : (line : ℕ) → Numbered (faultAt 9 line)
-nine line = record { is = inl refl }
+nine : (line from place : ℕ) → Numbered (faultAt 9 line from place)
+nine line from place = record { is = inl refl }
 
-one : (line : ℕ) → Numbered (faultAt 1 line)
-one line = record { is = inr (inl refl) }
+one : (line from place : ℕ) → Numbered (faultAt 1 line from place)
+one line from place = record { is = inr (inl refl) }
 
-ten : (line : ℕ) → Numbered (faultAt 10 line)
-ten line = record { is = inr (inr refl) }
+ten : (line from place : ℕ) → Numbered (faultAt 10 line from place)
+ten line from place = record { is = inr (inr refl) }
+
+-- a section that is read stands
+module _ {A : Type 0} (s : List ℕ) (at : ℕ) (w : List ℕ) (f : ℕ → Item A) (P : A → Type 0) (g : A → List ℕ)
+    (read : (i m : ℕ) (x : A) → f i ≡ item x m → P x × Stands s i m (g x)) where
+  pub section-read : (k a m : ℕ) (xs : List A) → headerAt s at w ≡ Value k a → linesAt f k 0 a ≡ items xs m
+      → (length xs ≡ k) × Every P xs × Stands s at m (sectionOf w g xs)
+  section-read k a m xs e h =
+      let r = lines-read s f g P read xs k 0 a m h in
+      let c : k ≡ length xs = sym (r .0) in
+      (r .0, r .1, stands-join s at a m (headerOf w (length xs)) (linesOf g xs) (header-read s at w a (length xs) (e ∙ ap (λ (i : ℕ). Value i a) c) .1) (r .2))
 
 -- an accepted section of steps
 pub record PartRead (s : List ℕ) (at : ℕ) (w : List ℕ) (left : ℕ) (ss : List Step) (m : ℕ) : Type 0 where
@@ -82,30 +92,29 @@ module _ (s : List ℕ) (at : ℕ) (w : List ℕ) (line left : ℕ) where
 
   part-made : (k a : ℕ) (ss : List Step) (m : ℕ) → headerAt s at w ≡ Value k a → k ≤ left → linesAt (lineAt s) k 0 a ≡ items ss m → PartRead s at w left ss m
   part-made k a ss m e h f =
-      let r = lines-read s (lineAt s) lineOf Holdable (line-read s) ss k 0 a m f in
+      let r = section-read s at w (lineAt s) Holdable lineOf (line-read s) k a m ss e f in
       let c : k ≡ length ss = sym (r .0) in
-      let head : headerAt s at w ≡ Value (length ss) a = e ∙ ap (λ (n : ℕ). Value n a) c in
       record {
         start = a;
-        header = head;
+        header = e ∙ ap (λ (n : ℕ). Value n a) c;
         are = ap (λ (n : ℕ). linesAt (lineAt s) n 0 a) (r .0) ∙ f;
         few = subst (λ (n : ℕ). n ≤ left) c h;
         holds = r .1;
-        stands = stands-join s at a m (headerOf w (length ss)) (linesOf lineOf ss) (header-read s at w a (length ss) head .1) (r .2);
+        stands = r .2;
       }
 
-  part-lines : (k a : ℕ) → headerAt s at w ≡ Value k a → k ≤ left → (r : Items Step) → linesAt (lineAt s) k 0 a ≡ r → PartSound (onItems r (λ i. noPart (faultAt 9 (line + 1 + i))) part)
-  part-lines k a e h (brokenAt i) f = nine (line + 1 + i)
+  part-lines : (k a : ℕ) → headerAt s at w ≡ Value k a → k ≤ left → (r : Items Step) → linesAt (lineAt s) k 0 a ≡ r → PartSound (onItems r (λ i from p. noPart (faultAt 9 (line + 1 + i) from p)) part)
+  part-lines k a e h (brokenAt i from p) f = nine (line + 1 + i) from p
   part-lines k a e h (items ss m) f = part-made k a ss m e h f
 
   part-limit : (k a : ℕ) → headerAt s at w ≡ Value k a → (x : Bool) → leb k left ≡ x
-      → PartSound (pick x (onItems (linesAt (lineAt s) k 0 a) (λ i. noPart (faultAt 9 (line + 1 + i))) part) (noPart (faultAt 10 line)))
-  part-limit k a e false h = ten line
+      → PartSound (pick x (onItems (linesAt (lineAt s) k 0 a) (λ i from p. noPart (faultAt 9 (line + 1 + i) from p)) part) (noPart (faultAt 10 line at (countAt at w))))
+  part-limit k a e false h = ten line at (countAt at w)
   part-limit k a e true h = part-lines k a e (leb-true k left h) (linesAt (lineAt s) k 0 a) refl
 
-  part-header : (r : Number) → headerAt s at w ≡ r → PartSound (onNumber r (noPart (faultAt 9 line))
-      (λ k a. pick (leb k left) (onItems (linesAt (lineAt s) k 0 a) (λ i. noPart (faultAt 9 (line + 1 + i))) part) (noPart (faultAt 10 line))))
-  part-header Bad e = nine line
+  part-header : (r : Number) → headerAt s at w ≡ r → PartSound (onNumber r (λ p. noPart (faultAt 9 line at p))
+      (λ k a. pick (leb k left) (onItems (linesAt (lineAt s) k 0 a) (λ i from p. noPart (faultAt 9 (line + 1 + i) from p)) part) (noPart (faultAt 10 line at (countAt at w)))))
+  part-header (Bad p) e = nine line at p
   part-header (Value k a) e = part-limit k a e (leb k left) refl
 
   part-sound : PartSound (partAt s at w line left)
@@ -125,6 +134,10 @@ module _ (s : List ℕ) (at : ℕ) (w : List ℕ) (line left : ℕ) where
 pub read-got : (s : List ℕ) → length s ≤ longest → readFile s ≡ valuesFrom s
 unfolding readFile
 read-got s h = rw (le-leb (length s) longest h)
+
+pub read-long : (s : List ℕ) → longest < length s → readFile s ≡ faulty tooLong
+unfolding readFile
+read-long s h = rw (lt-leb (length s) longest h)
 
 pub values-got : (s vs : List ℕ) (n a m : ℕ) → headerAt s 0 valuesWord ≡ Value n a → among greatestSize n ≡ true → linesAt (valueAt s) n 0 a ≡ items vs m → valuesFrom s ≡ warmupFrom s vs m
 unfolding valuesFrom
@@ -170,11 +183,21 @@ file-spelled h f =
 -- ---- what is read is spelled
 
 -- an accepted opening: its values stand up to a place
-record Opened (s vs : List ℕ) (at : ℕ) : Type 0 where
-  some : 1 ≤ length vs
-  few : length vs ≤ greatestSize
-  small : Every (λ v. v ≤ most) vs
-  stands : Stands s 0 at (sectionOf valuesWord valueLine vs)
+pub record Opened (s vs : List ℕ) (at : ℕ) : Type 0 where
+  pub some : 1 ≤ length vs
+  pub few : length vs ≤ greatestSize
+  pub small : Every (λ v. v ≤ most) vs
+  pub stands : Stands s 0 at (sectionOf valuesWord valueLine vs)
+
+pub opened : (s : List ℕ) (n a : ℕ) (vs : List ℕ) (m : ℕ) → headerAt s 0 valuesWord ≡ Value n a → (1 ≤ n) × (n ≤ greatestSize) → linesAt (valueAt s) n 0 a ≡ items vs m → Opened s vs m
+opened s n a vs m e h f =
+    let r = section-read s 0 valuesWord (valueAt s) (λ v. v ≤ most) valueLine (value-read s) n a m vs e f in
+    record {
+      some = subst (λ (k : ℕ). 1 ≤ k) (sym (r .0)) (h .0);
+      few = subst (λ (k : ℕ). k ≤ greatestSize) (sym (r .0)) (h .1);
+      small = r .1;
+      stands = r .2;
+    }
 
 -- what is true of a file that is read so
 abbrev FileSound : List ℕ → Reading → Type 0
@@ -207,12 +230,12 @@ module _ (s : List ℕ) (short : length s ≤ longest) where
           )
 
       measured-end : (ms : List Step) (m : ℕ) → PartRead s b measuredWord (mostSteps - length ws) ms m → (x : Bool) → eqb m (length s) ≡ x
-          → FileSound s (pick x (sound (record { values = vs; warmup = ws; measured = ms })) (faulty (faultAt 9 (length vs + length ws + length ms + 4))))
-      measured-end ms m p false e = nine (length vs + length ws + length ms + 4)
+          → FileSound s (pick x (sound (record { values = vs; warmup = ws; measured = ms })) (faulty (faultAt 9 (length vs + length ws + length ms + 4) m m)))
+      measured-end ms m p false e = nine (length vs + length ws + length ms + 4) m m
       measured-end ms m p true e = file-made ms (subst (PartRead s b measuredWord (mostSteps - length ws) ms) (eqb-true m (length s) e) p)
 
       measured-part : (r : Part) → PartSound s b measuredWord (length vs + length ws + 3) (mostSteps - length ws) r
-          → FileSound s (onPart r (λ ms m. pick (eqb m (length s)) (sound (record { values = vs; warmup = ws; measured = ms })) (faulty (faultAt 9 (length vs + length ws + length ms + 4)))))
+          → FileSound s (onPart r (λ ms m. pick (eqb m (length s)) (sound (record { values = vs; warmup = ws; measured = ms })) (faulty (faultAt 9 (length vs + length ws + length ms + 4) m m))))
       measured-part (noPart f) p = p
       measured-part (part ms m) p = measured-end ms m p (eqb m (length s)) refl
 
@@ -229,39 +252,27 @@ module _ (s : List ℕ) (short : length s ≤ longest) where
     unfolding warmupFrom
     warmup-sound = warmup-part (partAt s at warmupWord (length vs + 2) mostSteps) (part-sound s at warmupWord (length vs + 2) mostSteps)
 
-  opened : (n a : ℕ) (vs : List ℕ) (m : ℕ) → headerAt s 0 valuesWord ≡ Value n a → (1 ≤ n) × (n ≤ greatestSize) → linesAt (valueAt s) n 0 a ≡ items vs m → Opened s vs m
-  opened n a vs m e h f =
-      let r = lines-read s (valueAt s) valueLine (λ v. v ≤ most) (value-read s) vs n 0 a m f in
-      let c : n ≡ length vs = sym (r .0) in
-      record {
-        some = subst (λ (k : ℕ). 1 ≤ k) c (h .0);
-        few = subst (λ (k : ℕ). k ≤ greatestSize) c (h .1);
-        small = r .1;
-        stands = stands-join s 0 a m (headerOf valuesWord (length vs)) (linesOf valueLine vs)
-            (header-read s 0 valuesWord a (length vs) (e ∙ ap (λ (k : ℕ). Value k a) c) .1) (r .2);
-      }
-
   values-lines : (n a : ℕ) → headerAt s 0 valuesWord ≡ Value n a → (1 ≤ n) × (n ≤ greatestSize) → (r : Items ℕ) → linesAt (valueAt s) n 0 a ≡ r
-      → FileSound s (onItems r (λ i. faulty (faultAt 9 (2 + i))) (warmupFrom s))
-  values-lines n a e h (brokenAt i) f = nine (2 + i)
-  values-lines n a e h (items vs m) f = warmup-sound vs m (opened n a vs m e h f)
+      → FileSound s (onItems r (λ i from p. faulty (faultAt 9 (2 + i) from p)) (warmupFrom s))
+  values-lines n a e h (brokenAt i from p) f = nine (2 + i) from p
+  values-lines n a e h (items vs m) f = warmup-sound vs m (opened s n a vs m e h f)
 
   values-limit : (n a : ℕ) → headerAt s 0 valuesWord ≡ Value n a → (x : Bool) → among greatestSize n ≡ x
-      → FileSound s (pick x (onItems (linesAt (valueAt s) n 0 a) (λ i. faulty (faultAt 9 (2 + i))) (warmupFrom s)) (faulty (faultAt 1 1)))
-  values-limit n a e false h = one 1
+      → FileSound s (pick x (onItems (linesAt (valueAt s) n 0 a) (λ i from p. faulty (faultAt 9 (2 + i) from p)) (warmupFrom s)) (faulty (faultAt 1 1 0 (countAt 0 valuesWord))))
+  values-limit n a e false h = one 1 0 (countAt 0 valuesWord)
   values-limit n a e true h = values-lines n a e (among-true greatestSize n h) (linesAt (valueAt s) n 0 a) refl
 
-  values-header : (r : Number) → headerAt s 0 valuesWord ≡ r → FileSound s (onNumber r (faulty (faultAt 9 1))
-      (λ n a. pick (among greatestSize n) (onItems (linesAt (valueAt s) n 0 a) (λ i. faulty (faultAt 9 (2 + i))) (warmupFrom s)) (faulty (faultAt 1 1))))
-  values-header Bad e = nine 1
+  values-header : (r : Number) → headerAt s 0 valuesWord ≡ r → FileSound s (onNumber r (λ p. faulty (faultAt 9 1 0 p))
+      (λ n a. pick (among greatestSize n) (onItems (linesAt (valueAt s) n 0 a) (λ i from p. faulty (faultAt 9 (2 + i) from p)) (warmupFrom s)) (faulty (faultAt 1 1 0 (countAt 0 valuesWord)))))
+  values-header (Bad p) e = nine 1 0 p
   values-header (Value n a) e = values-limit n a e (among greatestSize n) refl
 
   values-sound : FileSound s (valuesFrom s)
   unfolding valuesFrom
   values-sound = values-header (headerAt s 0 valuesWord) refl
 
-file-pick : (s : List ℕ) (x : Bool) → leb (length s) longest ≡ x → FileSound s (pick x (valuesFrom s) (faulty (faultAt 10 0)))
-file-pick s false e = ten 0
+file-pick : (s : List ℕ) (x : Bool) → leb (length s) longest ≡ x → FileSound s (pick x (valuesFrom s) (faulty tooLong))
+file-pick s false e = record { is = inr (inr refl) }
 file-pick s true e = values-sound s (leb-true (length s) longest e)
 
 file-sound : (s : List ℕ) → FileSound s (readFile s)

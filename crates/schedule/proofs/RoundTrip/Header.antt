@@ -44,15 +44,15 @@ word-spelled s (b ∷ w) at n p =
     rw (lt-ltb at (length s) (stands-within s at n b w p), eq-eqb (getD s at 0) b (byte-stands s at n b w p)) (word-spelled s w (at + 1) n (stands-tail s at n b w p))
 
 abbrev WordSound : List ℕ → ℕ → List ℕ → Word → Type 0
-WordSound s at w Missing = Unit {0}
+WordSound s at w (Missing p) = Unit {0}
 WordSound s at w (Past n) = Stands s at n w
 
 word-byte : (s : List ℕ) (at b : ℕ) (w : List ℕ) → at < length s → getD s at 0 ≡ b → (r : Word) → WordSound s (at + 1) w r → WordSound s at (b ∷ w) r
-word-byte s at b w h e Missing k = tt
+word-byte s at b w h e (Missing p) k = tt
 word-byte s at b w h e (Past n) k = stands-here s at n b w h e k
 
 word-pick : (s : List ℕ) (at b : ℕ) (w : List ℕ) (r : Word) → WordSound s (at + 1) w r → (x : Bool) → ltb at (length s) ≡ x → (y : Bool) → eqb (getD s at 0) b ≡ y
-    → WordSound s at (b ∷ w) (pick x (pick y r Missing) Missing)
+    → WordSound s at (b ∷ w) (pick x (pick y r (Missing at)) (Missing at))
 word-pick s at b w r k false e y f = tt
 word-pick s at b w r k true e false f = tt
 word-pick s at b w r k true e true f = word-byte s at b w (ltb-true at (length s) e) (eqb-true (getD s at 0) b f) r k
@@ -78,17 +78,17 @@ module _ (s : List ℕ) (at : ℕ) (w : List ℕ) where
       ∙ alone-spelled s (at + length w) m v h (stands-rest s at m w (spaced v (ending false)) p)
 
   abbrev HeaderSound : Number → Type 0
-  HeaderSound Bad = Unit {0}
+  HeaderSound (Bad p) = Unit {0}
   HeaderSound (Value v m) = (v ≤ most) × Stands s at m (headerOf w v)
 
   header-alone : (n : ℕ) → Stands s at n w → (r : Number) → aloneAt s n ≡ r → HeaderSound r
-  header-alone n p Bad e = tt
+  header-alone n p (Bad q) e = tt
   header-alone n p (Value v m) e =
       let k = alone-read s n m v e in
       (k .0, stands-join s at n m w (spaced v (ending false)) p (k .1))
 
   header-word : (r : Word) → WordSound s at w r → HeaderSound (onWord r Bad (λ n. aloneAt s n))
-  header-word Missing k = tt
+  header-word (Missing p) k = tt
   header-word (Past n) k = header-alone n k (aloneAt s n) refl
 
   header-sound : HeaderSound (headerAt s at w)

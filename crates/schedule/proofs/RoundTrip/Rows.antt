@@ -29,7 +29,7 @@ module _ {A : Type 0} (s : List ℕ) (f : ℕ → Item A) (g : A → List ℕ) (
       (lines-spelled one xs k (i + 1) n m (omega arith) (h .1) (stands-rest s at m (g x) (linesOf g xs) p))
 
   abbrev LinesSound : ℕ → ℕ → Items A → Type 0
-  LinesSound k at (brokenAt j) = Unit {0}
+  LinesSound k at (brokenAt j from p) = Unit {0}
   LinesSound k at (items xs m) = (length xs ≡ k) × Every P xs × Stands s at m (linesOf g xs)
 
   none-sound : (at : ℕ) → LinesSound zero at (items [] at)
@@ -38,13 +38,13 @@ module _ {A : Type 0} (s : List ℕ) (f : ℕ → Item A) (g : A → List ℕ) (
 
   before-sound : (k at n : ℕ) (x : A) → P x × Stands s at n (g x) → (r : Items A) → LinesSound k n r → LinesSound (suc k) at (before x r)
   unfolding before Every linesOf
-  before-sound k at n x h (brokenAt j) r = tt
+  before-sound k at n x h (brokenAt j from p) r = tt
   before-sound k at n x h (items xs m) r = (ap suc (r .0), (h .0, r .1), stands-join s at n m (g x) (linesOf g xs) (h .1) (r .2))
 
   more-sound : ((at m : ℕ) (x : A) → f at ≡ item x m → P x × Stands s at m (g x))
       → (k i at : ℕ) → ((n : ℕ) → LinesSound k n (linesAt f k (i + 1) n)) → (r : Item A) → f at ≡ r
-      → LinesSound (suc k) at (onItem r (brokenAt i) (λ x n. before x (linesAt f k (i + 1) n)))
-  more-sound one k i at ih broken e = tt
+      → LinesSound (suc k) at (onItem r (brokenAt i at) (λ x n. before x (linesAt f k (i + 1) n)))
+  more-sound one k i at ih (broken p) e = tt
   more-sound one k i at ih (item x n) e = before-sound k at n x (one at n x e) (linesAt f k (i + 1) n) (ih n)
 
   lines-sound : ((at m : ℕ) (x : A) → f at ≡ item x m → P x × Stands s at m (g x)) → (k i at : ℕ) → LinesSound k at (linesAt f k i at)

@@ -14,7 +14,9 @@ use Rattle.text.specs.Stands.{Stands}
 use Rattle.schedule.specs.Lines.{Item, broken, item}
 use Rattle.rules.specs.Kinds.{numbersOf, roundOf}
 use Rattle.schedule.specs.Lines.{Every}
-use Rattle.schedule.specs.Line.{ending, spaced, lineOf, Holdable, numbersAfter, mayCut, stepOf, onNumber, End, noEnd, ends, onEnd, spacedAt, nextNumber, endAt, afterLetter, lineAt}
+use Rattle.schedule.specs.Line.{ending, spaced, lineOf, Holdable, numbersAfter, mayCut, stepOf, onNumber, onEnd, spacedAt, nextNumber, endAt, endedAt, afterLetter, lineAt}
+use Rattle.schedule.specs.declared.line.End.{End}
+use Rattle.schedule.specs.declared.line.End.the-variants.{NoEnd, Ends}
 use Rattle.text.specs.declared.number.Number.{Number}
 use Rattle.text.specs.declared.number.Number.the-variants.{Bad, Value}
 use Rattle.schedule.proofs.Reading.Cases.{spaced-is, next-wanted, next-none, end-plain, end-cut}
@@ -24,35 +26,35 @@ use Rattle.text.proofs.SpellLaws.{number-spelled, number-read}
 -- ---- what follows a letter, over the count of its numbers
 
 -- a number behind a space where one is wanted
-abbrev wantedText : Bool → ℕ → List ℕ → List ℕ
+abbrev pub wantedText : Bool → ℕ → List ℕ → List ℕ
 wantedText true v l = spaced v l
 wantedText false v l = l
 
 -- such a number is one that a file can hold, and 0 where none is wanted
-abbrev WantedSmall : Bool → ℕ → Type 0
+abbrev pub WantedSmall : Bool → ℕ → Type 0
 WantedSmall true v = v ≤ most
 WantedSmall false v = v ≡ 0
 
 -- only a step that may be cut is
-abbrev CutOnly : Bool → Bool → Type 0
+abbrev pub CutOnly : Bool → Bool → Type 0
 CutOnly true x = Unit {0}
 CutOnly false x = x ≡ false
 
-abbrev bodyOf : ℕ → ℕ → ℕ → ℕ → Bool → List ℕ
+abbrev pub bodyOf : ℕ → ℕ → ℕ → ℕ → Bool → List ℕ
 bodyOf b i j r x = spaced i (wantedText (ltb 1 (numbersAfter b)) j (wantedText (ltb 2 (numbersAfter b)) r (ending x)))
 
 -- the numbers and the cut that a letter takes
-record Body (b i j r : ℕ) (x : Bool) : Type 0 where
-  first : i ≤ most
-  second : WantedSmall (ltb 1 (numbersAfter b)) j
-  third : WantedSmall (ltb 2 (numbersAfter b)) r
-  cut : CutOnly (mayCut b) x
+pub record Body (b i j r : ℕ) (x : Bool) : Type 0 where
+  pub first : i ≤ most
+  pub second : WantedSmall (ltb 1 (numbersAfter b)) j
+  pub third : WantedSmall (ltb 2 (numbersAfter b)) r
+  pub cut : CutOnly (mayCut b) x
 
 -- a step's letter: the step that is made of it with its numbers is one that a file can hold, and its line is the letter and those numbers
-record Letter (b : ℕ) : Type 0 where
-  byte : 0 < b
-  holds : (i j r : ℕ) (x : Bool) → Body b i j r x → Holdable (stepOf b i j r x)
-  line : (i j r : ℕ) (x : Bool) → Body b i j r x → lineOf (stepOf b i j r x) ≡ b ∷ bodyOf b i j r x
+pub record Letter (b : ℕ) : Type 0 where
+  pub byte : 0 < b
+  pub holds : (i j r : ℕ) (x : Bool) → Body b i j r x → Holdable (stepOf b i j r x)
+  pub line : (i j r : ℕ) (x : Bool) → Body b i j r x → lineOf (stepOf b i j r x) ≡ b ∷ bodyOf b i j r x
 
 three-69 : Letter 69
 unfolding numbersAfter mayCut stepOf Every numbersOf roundOf
@@ -100,7 +102,7 @@ unfolding numbersAfter
 none-after b e s f z q p c r = rw (e, s, f, z, q, p, c, r)
 
 -- every byte after which numbers are wanted is a step's letter
-letter : (b : ℕ) → eqb (numbersAfter b) 0 ≡ false → Letter b
+pub letter : (b : ℕ) → eqb (numbersAfter b) 0 ≡ false → Letter b
 letter b n =
     or-other b 69 three-69 (λ e. or-other b 83 three-83 (λ s. or-other b 70 three-70 (λ f. or-other b 90 two-90 (λ z.
     or-other b 81 one-81 (λ q. or-other b 80 one-80 (λ p. or-other b 67 one-67 (λ c. or-other b 82 one-82 (λ r.
@@ -115,8 +117,8 @@ unfolding isDigit
 not-digit b h = rw (lt-ltb b 48 h)
 
 after-got : (b : ℕ) (s : List ℕ) (at n k l e i j r : ℕ) (x : Bool) → nextNumber s at true ≡ Value i n → nextNumber s n (ltb 1 (numbersAfter b)) ≡ Value j k
-    → nextNumber s k (ltb 2 (numbersAfter b)) ≡ Value r l → endAt s l (mayCut b) ≡ ends x e → afterLetter b s at ≡ item (stepOf b i j r x) e
-unfolding afterLetter
+    → nextNumber s k (ltb 2 (numbersAfter b)) ≡ Value r l → endAt s l (mayCut b) ≡ Ends x e → afterLetter b s at ≡ item (stepOf b i j r x) e
+unfolding afterLetter endedAt
 after-got b s at n k l e i j r x p q t u = rw (p, q, t, u)
 
 line-letter : (s : List ℕ) (at b : ℕ) → getD s at 0 ≡ b → eqb (numbersAfter b) 0 ≡ false → lineAt s at ≡ afterLetter b s (at + 1)
@@ -163,14 +165,14 @@ module _ (s : List ℕ) where
       record { place = k .place; read = next-wanted s at refl ∙ k .read; rest = k .rest }
   next-spelled at m v l false h stop p = record { place = at; read = next-none s at refl ∙ ap (λ (u : ℕ). Value u at) (sym h); rest = p }
 
-  end-spelled : (at m : ℕ) (x may : Bool) → CutOnly may x → Stands s at m (ending x) → endAt s at may ≡ ends x m
-  end-spelled at m false may c p = end-plain s at may (byte-stands s at m 10 [] p) ∙ ap (ends false) (sym (p .end))
+  end-spelled : (at m : ℕ) (x may : Bool) → CutOnly may x → Stands s at m (ending x) → endAt s at may ≡ Ends x m
+  end-spelled at m false may c p = end-plain s at may (byte-stands s at m 10 [] p) ∙ ap (Ends false) (sym (p .end))
   end-spelled at m true false c p = let u : _≡_ {A = ℕ} 0 1 = ap (λ (x : Bool). pick x 0 1) c in absurd (omega arith)
   end-spelled at m true true c p =
       let q = stands-tail s at m 32 (88 ∷ 10 ∷ []) p in
       let r = stands-tail s (at + 1) m 88 (10 ∷ []) q in
       end-cut s at refl (byte-stands s at m 32 (88 ∷ 10 ∷ []) p) (byte-stands s (at + 1) m 88 (10 ∷ []) q)
-      (ap (λ (k : ℕ). getD s k 0) (omega arith) ∙ byte-stands s (at + 1 + 1) m 10 [] r) ∙ ap (ends true) (sym (p .end))
+      (ap (λ (k : ℕ). getD s k 0) (omega arith) ∙ byte-stands s (at + 1 + 1) m 10 [] r) ∙ ap (Ends true) (sym (p .end))
 
   after-spelled : (b at m i j r : ℕ) (x : Bool) → Body b i j r x → Stands s at m (bodyOf b i j r x) → afterLetter b s at ≡ item (stepOf b i j r x) m
   after-spelled b at m i j r x h p =
@@ -202,28 +204,28 @@ module _ (s : List ℕ) where
 
 module _ (s : List ℕ) where
   abbrev pub SpacedSound : ℕ → Number → Type 0
-  SpacedSound at Bad = Unit {0}
+  SpacedSound at (Bad p) = Unit {0}
   SpacedSound at (Value v n) = (v ≤ most) × ((m : ℕ) (l : List ℕ) → Stands s n m l → Stands s at m (spaced v l))
 
   abbrev NextSound : ℕ → Bool → Number → Type 0
-  NextSound at w Bad = Unit {0}
+  NextSound at w (Bad p) = Unit {0}
   NextSound at w (Value v n) = WantedSmall w v × ((m : ℕ) (l : List ℕ) → Stands s n m l → Stands s at m (wantedText w v l))
 
   abbrev EndSound : ℕ → Bool → End → Type 0
-  EndSound at may noEnd = Unit {0}
-  EndSound at may (ends x m) = CutOnly may x × Stands s at m (ending x)
+  EndSound at may (NoEnd p) = Unit {0}
+  EndSound at may (Ends x m) = CutOnly may x × Stands s at m (ending x)
 
   abbrev LineSound : ℕ → Item Step → Type 0
-  LineSound at broken = Unit {0}
+  LineSound at (broken p) = Unit {0}
   LineSound at (item st m) = Holdable st × Stands s at m (lineOf st)
 
   spaced-number : (at : ℕ) → getD s at 0 ≡ 32 → (r : Number) → numberAt s (at + 1) ≡ r → SpacedSound at r
-  spaced-number at e Bad q = tt
+  spaced-number at e (Bad p) q = tt
   spaced-number at e (Value v n) q =
       let k = number-read s (at + 1) v n q in
       (k .small, λ m l p. stands-cons s at m 32 (spelled v ++ l) (omega arith) e (stands-join s (at + 1) n m (spelled v) l (k .stands) p))
 
-  spaced-pick : (at : ℕ) (x : Bool) → eqb (getD s at 0) 32 ≡ x → SpacedSound at (pick x (numberAt s (at + 1)) Bad)
+  spaced-pick : (at : ℕ) (x : Bool) → eqb (getD s at 0) 32 ≡ x → SpacedSound at (pick x (numberAt s (at + 1)) (Bad at))
   spaced-pick at true e = spaced-number at (eqb-true (getD s at 0) 32 e) (numberAt s (at + 1)) refl
   spaced-pick at false e = tt
 
@@ -232,7 +234,7 @@ module _ (s : List ℕ) where
   spaced-sound at = spaced-pick at (eqb (getD s at 0) 32) refl
 
   next-of : (at : ℕ) (r : Number) → SpacedSound at r → NextSound at true r
-  next-of at Bad h = tt
+  next-of at (Bad p) h = tt
   next-of at (Value v n) h = h
 
   next-sound : (at : ℕ) (w : Bool) → NextSound at w (nextNumber s at w)
@@ -246,7 +248,7 @@ module _ (s : List ℕ) where
 
   end-pick : (at : ℕ) (may x : Bool) → eqb (getD s at 0) 10 ≡ x → (y : Bool) → eqb (getD s at 0) 32 ≡ y → (z : Bool) → eqb (getD s (at + 1) 0) 88 ≡ z
       → (w : Bool) → eqb (getD s (at + 2) 0) 10 ≡ w
-      → EndSound at may (pick x (ends false (at + 1)) (pick may (pick y (pick z (pick w (ends true (at + 3)) noEnd) noEnd) noEnd) noEnd))
+      → EndSound at may (pick x (Ends false (at + 1)) (pick may (pick y (pick z (pick w (Ends true (at + 3)) (NoEnd (at + 2))) (NoEnd (at + 1))) (NoEnd at)) (NoEnd at)))
   end-pick at may true e y f z g w h = (plain may, stands-byte s at 10 (omega arith) (eqb-true (getD s at 0) 10 e))
   end-pick at false false e y f z g w h = tt
   end-pick at true false e false f z g w h = tt
@@ -275,34 +277,38 @@ module _ (s : List ℕ) where
 
     after-end : (i j r n k l : ℕ) → NextSound (at + 1) true (Value i n) → NextSound n second (Value j k) → NextSound k third (Value r l)
         → (q : End) → EndSound l (mayCut b) q → LineSound at (onEnd q broken (λ x m. item (stepOf b i j r x) m))
-    after-end i j r n k l f g h noEnd c = tt
-    after-end i j r n k l f g h (ends x m) c =
+    after-end i j r n k l f g h (NoEnd p) c = tt
+    after-end i j r n k l f g h (Ends x m) c =
         let body : Body b i j r x = record { first = f .0; second = g .0; third = h .0; cut = c .0 } in
         let last : List ℕ = wantedText third r (ending x) in
         let stand : Stands s (at + 1) m (bodyOf b i j r x) = f .1 m (wantedText second j last) (g .1 m last (h .1 m (ending x) (c .1))) in
         (t .holds i j r x body, subst (Stands s at m) (sym (t .line i j r x body)) (stands-cons s at m b (bodyOf b i j r x) (t .byte) e stand))
 
+    ended-sound : (i j r n k l : ℕ) → NextSound (at + 1) true (Value i n) → NextSound n second (Value j k) → NextSound k third (Value r l) → LineSound at (endedAt b i j r s l)
+    unfolding endedAt
+    ended-sound i j r n k l f g h = after-end i j r n k l f g h (endAt s l (mayCut b)) (end-sound l (mayCut b))
+
     after-third : (i j n k : ℕ) → NextSound (at + 1) true (Value i n) → NextSound n second (Value j k) → (q : Number) → NextSound k third q
-        → LineSound at (onNumber q broken (λ r l. onEnd (endAt s l (mayCut b)) broken (λ x m. item (stepOf b i j r x) m)))
-    after-third i j n k f g Bad h = tt
-    after-third i j n k f g (Value r l) h = after-end i j r n k l f g h (endAt s l (mayCut b)) (end-sound l (mayCut b))
+        → LineSound at (onNumber q broken (λ r l. endedAt b i j r s l))
+    after-third i j n k f g (Bad p) h = tt
+    after-third i j n k f g (Value r l) h = ended-sound i j r n k l f g h
 
     after-second : (i n : ℕ) → NextSound (at + 1) true (Value i n) → (q : Number) → NextSound n second q
-        → LineSound at (onNumber q broken (λ j k. onNumber (nextNumber s k third) broken (λ r l. onEnd (endAt s l (mayCut b)) broken (λ x m. item (stepOf b i j r x) m))))
-    after-second i n f Bad g = tt
+        → LineSound at (onNumber q broken (λ j k. onNumber (nextNumber s k third) broken (λ r l. endedAt b i j r s l)))
+    after-second i n f (Bad p) g = tt
     after-second i n f (Value j k) g = after-third i j n k f g (nextNumber s k third) (next-sound k third)
 
     after-first : (q : Number) → NextSound (at + 1) true q
         → LineSound at (onNumber q broken (λ i n. onNumber (nextNumber s n second) broken
-        (λ j k. onNumber (nextNumber s k third) broken (λ r l. onEnd (endAt s l (mayCut b)) broken (λ x m. item (stepOf b i j r x) m)))))
-    after-first Bad f = tt
+        (λ j k. onNumber (nextNumber s k third) broken (λ r l. endedAt b i j r s l))))
+    after-first (Bad p) f = tt
     after-first (Value i n) f = after-second i n f (nextNumber s n second) (next-sound n second)
 
     after-sound : LineSound at (afterLetter b s (at + 1))
     unfolding afterLetter
     after-sound = after-first (nextNumber s (at + 1) true) (next-sound (at + 1) true)
 
-  line-pick : (at b : ℕ) → getD s at 0 ≡ b → (x : Bool) → eqb (numbersAfter b) 0 ≡ x → LineSound at (pick x broken (afterLetter b s (at + 1)))
+  line-pick : (at b : ℕ) → getD s at 0 ≡ b → (x : Bool) → eqb (numbersAfter b) 0 ≡ x → LineSound at (pick x (broken at) (afterLetter b s (at + 1)))
   line-pick at b e true n = tt
   line-pick at b e false n = after-sound at b e (letter b n)
 

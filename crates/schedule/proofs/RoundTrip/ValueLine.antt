@@ -28,7 +28,7 @@ module _ (s : List ℕ) where
       ∙ ap (item v) (sym (q .end))
 
   item-number : (r : Number) {v m : ℕ} → onNumber r broken item ≡ item v m → r ≡ Value v m
-  item-number Bad e = let z : _≡_ {A = ℕ} 0 1 = cc in absurd (omega arith)
+  item-number (Bad p) e = let z : _≡_ {A = ℕ} 0 1 = cc in absurd (omega arith)
   item-number (Value w n) {v} {m} e = let p : w ≡ v = cc in let q : n ≡ m = cc in cc
 
   -- whatever is read as a value, from one place up to another, is the line of that value

@@ -1,7 +1,7 @@
--- `line::next_number` meets its contract: the flag says which case of `nextNumber` holds. Assumes nothing.
+-- The flag says which case of `nextNumber` holds. Assumes nothing.
 use mathlib.Core.Path.{sym, _∙_}
-use Rattle.schedule.proofs.Reading.Cases.{next-wanted, next-none}
 use borrow.Author.Needs.{needs}
+use Rattle.schedule.proofs.Reading.Cases.{next-wanted, next-none}
 use Rattle.schedule.proofs.line.next_number.Statement.{statement}
 use Rattle.schedule.proofs.line.next_number.Tie as tie
 

@@ -1,21 +1,21 @@
--- `line::spaced_at` meets its contract: the test says which case of `spacedAt` holds. Assumes nothing.
+-- The test says which case of `spacedAt` holds. Assumes nothing.
 use mathlib.Core.Path.{sym, _∙_}
 use native.Mathlib.Omega.{arith}
-use Rattle.schedule.proofs.Reading.Ahead.{ahead-past}
-use Rattle.schedule.proofs.Reading.Cases.{spaced-is, spaced-not}
+use denote.Ref.{now}
 use borrow.Author.Needs.{needs}
+use Rattle.text.proofs.NumberLaws.{byte-inside}
+use Rattle.schedule.proofs.Reading.Cases.{spaced-is, spaced-not}
 use Rattle.schedule.proofs.line.spaced_at.Statement.{statement}
 use Rattle.schedule.proofs.line.spaced_at.Tie as tie
 
-decimal-at-requires : tie.Need-decimal-at-requires
-decimal-at-requires c κs = ahead-past (c .before .before .before .pre) (c .if1 .taken) (λ z. omega arith)
+add-decimal : tie.Need-add-decimal
+add-decimal c = record { fits = omega (arith, byte-inside (now (c .before .before .before .args .s)) (c .before .before .before .args .at) (c .before .byte-at .ensures) (omega (arith, c .if1 .taken))) }
 
 returns : tie.Need-returns
-returns c = c .decimal-at .ensures ∙ sym (spaced-is _ _ (c .before .if1 .taken))
+returns c = c .decimal .ensures ∙ sym (spaced-is _ _ (sym (c .before .before .byte-at .ensures) ∙ c .before .if1 .taken))
 
 returns-2 : tie.Need-returns-2
-returns-2 c = sym (spaced-not _ _ (c .if1 .left))
+returns-2 c = sym (spaced-not _ _ (λ z. c .if1 .left (c .before .byte-at .ensures ∙ z)))
 
 pub spaced-at-spec : {M : Type 1} → statement M
-spaced-at-spec =
-    tie.close (tie.spec (λ c. search needs) (λ c. search needs) decimal-at-requires returns returns-2)
+spaced-at-spec = tie.close (tie.spec (λ c κs. search needs) add-decimal (λ c κs. search needs) returns returns-2)

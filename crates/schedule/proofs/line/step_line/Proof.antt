@@ -1,28 +1,46 @@
--- Each return is one case of the definition: no LF ahead, a line that breaks the form, or a step. Assumes nothing.
-use mathlib.Core.Path.{refl, sym, _∙_}
+-- Each part that is read says which case of `lineAt` holds. Assumes nothing.
+use mathlib.Core.Path.{_≡_, sym, ap, _∙_}
+use native.Mathlib.Omega.{arith}
+use denote.Ref.{now}
 use borrow.Author.Needs.{needs}
-use borrow.Author.Tests.{not-true, not-false}
-use Rattle.schedule.proofs.Reading.Ahead.{ahead-is, ahead-none}
-use Rattle.schedule.proofs.Reading.NoLf.{no-line}
-use Rattle.schedule.proofs.Reading.Whole.{line-fails, line-fault, line-known, line-taken}
+use Rattle.schedule.specs.Line.{asLine}
+use Rattle.schedule.proofs.Reading.Cases.{line-bad, line-other, line-no-first, line-no-second, line-no-third, line-numbers}
+use Rattle.schedule.proofs.Reading.Known.{letter-inside}
 use Rattle.schedule.proofs.line.step_line.Statement.{statement}
 use Rattle.schedule.proofs.line.step_line.Tie as tie
 
 returns : tie.Need-returns
-returns c = line-fault _ _ (no-line _ _ (ahead-none _ _ (c .before .lf-ahead .ensures) (not-true _ (c .if1 .taken))))
+returns c = line-bad (line-other _ _ (sym (c .before .before .byte-at .ensures)) (c .before .numbers-after .ensures) (c .if1 .taken))
 
-line-end-requires : tie.Need-line-end-requires
-line-end-requires c κs = ahead-is _ _ (c .before .lf-ahead .ensures) (not-false _ (c .if1 .left))
+add-spaced-at : tie.Need-add-spaced-at
+add-spaced-at c = record { fits = omega (arith, letter-inside (now (c .before .before .before .before .args .s)) (c .before .before .before .before .args .at) (c .before .before .byte-at .ensures) (c .before .numbers-after .ensures) (c .if1 .left)) }
 
 returns-2 : tie.Need-returns-2
-returns-2 c = line-fault _ _ (line-fails _ _ _ refl (sym (c .before .line-end .ensures) ∙ c .if2 .taken))
-
-known-line-requires : tie.Need-known-line-requires
-known-line-requires c κs = line-known _ _ (λ z. c .if2 .left (c .before .line-end .ensures ∙ z))
+returns-2 c =
+    c .ended-at .ensures
+    ∙ ap asLine (sym (line-numbers _ _ (sym (c .before .before .before .before .before .before .before .before .before .before .before .before .before .before .before .byte-at .ensures)) (c .before .before .before .before .before .before .before .before .before .before .before .before .before .before .numbers-after .ensures) (c .before .before .before .before .before .before .before .before .before .before .before .before .before .if1 .left)
+    (sym (c .before .before .before .before .before .before .before .before .before .before .before .before .spaced-at .ensures) ∙ c .before .before .before .before .before .before .before .before .before .before .a .given .1)
+    (sym (c .before .before .before .before .before .before .before .before .next-number .ensures) ∙ c .before .before .before .before .before .before .b .given .1)
+    (sym (c .before .before .before .before .next-number2 .ensures) ∙ c .before .before .c .given .1)))
 
 returns-3 : tie.Need-returns-3
-returns-3 c = line-taken _ _ (c .known-line .ensures)
+returns-3 c =
+    line-bad (line-no-third _ _ (sym (c .before .before .before .before .before .before .before .before .before .before .before .before .before .before .byte-at .ensures)) (c .before .before .before .before .before .before .before .before .before .before .before .before .before .numbers-after .ensures) (c .before .before .before .before .before .before .before .before .before .before .before .before .if1 .left)
+    (sym (c .before .before .before .before .before .before .before .before .before .before .before .spaced-at .ensures) ∙ c .before .before .before .before .before .before .before .before .before .a .given .1)
+    (sym (c .before .before .before .before .before .before .before .next-number .ensures) ∙ c .before .before .before .before .before .b .given .1)
+    (sym (c .before .before .before .next-number2 .ensures) ∙ c .before .place .given .1))
+
+returns-4 : tie.Need-returns-4
+returns-4 c =
+    line-bad (line-no-second _ _ (sym (c .before .before .before .before .before .before .before .before .before .before .byte-at .ensures)) (c .before .before .before .before .before .before .before .before .before .numbers-after .ensures) (c .before .before .before .before .before .before .before .before .if1 .left)
+    (sym (c .before .before .before .before .before .before .before .spaced-at .ensures) ∙ c .before .before .before .before .before .a .given .1) (sym (c .before .before .before .next-number .ensures) ∙ c .before .place2 .given .1))
+
+returns-5 : tie.Need-returns-5
+returns-5 c =
+    line-bad (line-no-first _ _ (sym (c .before .before .before .before .before .before .byte-at .ensures)) (c .before .before .before .before .before .numbers-after .ensures) (c .before .before .before .before .if1 .left) (sym (c .before .before .before .spaced-at .ensures) ∙ c .before .place3 .given .1))
 
 pub step-line-spec : {M : Type 1} → statement M
 step-line-spec =
-    tie.close (tie.spec (λ c κs. search needs) returns line-end-requires returns-2 known-line-requires returns-3)
+    let more = tie.spec (λ c κs. search needs) (λ c κs. search needs) returns add-spaced-at (λ c κs. search needs) (λ c. search needs) (λ c κs. search needs) in
+    let more = more (λ c. search needs) (λ c κs. search needs) (λ c. search needs) (λ c κs. search needs) (λ c. search needs) (λ c. search needs) in
+    tie.close (more (λ c. search needs) returns-2 returns-3 returns-4 returns-5)

@@ -8,16 +8,13 @@ use Rattle.schedule.proofs.values.read_values.Statement.{statement}
 use Rattle.schedule.proofs.values.read_values.Tie as tie
 
 abbrev Inv-loop : tie.InvT-loop
-Inv-loop s at end n values₀ i₀ place₀ values i place = Filling s at n values i place
+Inv-loop s at n values₀ i₀ place₀ values i place = Filling s at n values i place
 
 abbrev μ-loop : tie.MeasureT-loop
-μ-loop s at end n values₀ i₀ place₀ values i place = n - i
+μ-loop s at n values₀ i₀ place₀ values i place = n - i
 
 loop-holds : tie.Need-loop-holds Inv-loop μ-loop
-loop-holds c = filling-none (c .before .pre .1) refl
-
-value-at-requires : tie.Need-value-at-requires Inv-loop μ-loop
-value-at-requires c κs = c .before .before .before .pre .0
+loop-holds c = filling-none (c .before .pre) refl
 
 mul-values : tie.Need-mul-values Inv-loop μ-loop
 mul-values c = omega (arith, c .before .before .before .before .before .loop .inv .few)
@@ -25,13 +22,10 @@ mul-values c = omega (arith, c .before .before .before .before .before .loop .in
 array-write-values : tie.Need-array-write-values Inv-loop μ-loop
 array-write-values c = omega (arith, c .before .before .before .before .before .loop .inv .few)
 
-enum-told : tie.Need-enum-told Inv-loop μ-loop
-enum-told c = search needs
-
 returns : tie.Need-returns Inv-loop μ-loop
 returns c =
-    filling-broken (c .before .before .before .before .loop .inv) (c .before .before .before .loop-test .taken) (c .before .before .value-at .ensures)
-    (c .enum-told .given .1)
+    filling-broken (c .before .before .before .before .before .loop .inv) (c .before .before .before .before .loop-test .taken)
+    (c .before .before .before .value-at .ensures) (c .before .stop .given .1)
 
 add-i : tie.Need-add-i Inv-loop μ-loop
 add-i c = omega arith
@@ -49,5 +43,5 @@ returns-2 c = filling-done (c .before .loop .inv) (c .loop-test .left)
 
 pub read-values-spec : {M : Type 1} → statement M
 read-values-spec =
-    let more = tie.spec Inv-loop μ-loop loop-holds value-at-requires (λ c. search needs) mul-values array-write-values enum-told returns add-i loop-less loop-again in
-    tie.close (more returns-2)
+    let more = tie.spec Inv-loop μ-loop loop-holds (λ c κs. search needs) (λ c. search needs) mul-values array-write-values (λ c. search needs) returns add-i loop-less in
+    tie.close (more loop-again returns-2)

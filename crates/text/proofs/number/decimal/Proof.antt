@@ -24,6 +24,9 @@ returns-2 c = c .digits-from .ensures ∙ sym (number-scan _ _ (first (c .before
 add-digit-at : tie.Need-add-digit-at
 add-digit-at c = record { fits = omega (arith, first (c .before .before)) }
 
+add-t9 : tie.Need-add-t9
+add-t9 c = record { fits = omega (arith, first (c .before .before .before .before)) }
+
 returns-3 : tie.Need-returns-3
 returns-3 c = sym (number-zero-more _ _ (c .before .before .if2 .left) (sym (c .before .digit-at2 .ensures) ∙ c .if3 .taken))
 
@@ -35,5 +38,5 @@ returns-4 c = sym (number-zero _ _ (c .before .before .if2 .left) (sym (c .befor
 
 pub decimal-spec : {M : Type 1} → statement M
 decimal-spec =
-    let more = tie.spec (λ c κs. search needs) returns shared-slice-read-if2 (λ c κs. search needs) returns-2 add-digit-at (λ c κs. search needs) returns-3 add-t8 in
+    let more = tie.spec (λ c κs. search needs) returns shared-slice-read-if2 (λ c κs. search needs) returns-2 add-digit-at (λ c κs. search needs) add-t9 returns-3 add-t8 in
     tie.close (more returns-4)

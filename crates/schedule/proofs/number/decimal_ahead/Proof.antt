@@ -1,4 +1,4 @@
--- `number::decimal_at` meets its contract: the first two bytes say which case of `numberAt` holds. Assumes nothing.
+-- `number::decimal_ahead` meets its contract: the first two bytes say which case of `numberAt` holds. Assumes nothing.
 use mathlib.Core.Path.{sym, _∙_}
 use native.Mathlib.Omega.{arith}
 use borrow.Author.Tests.{not-true, not-false}
@@ -6,8 +6,8 @@ use denote.Ref.{now}
 use Rattle.text.proofs.NumberLaws.{Digit, digit-here, number-none, number-one, number-zero-more, number-more}
 use Rattle.schedule.proofs.Reading.Ahead.{ahead-in, ahead-digit}
 use borrow.Author.Needs.{needs}
-use Rattle.schedule.proofs.number.decimal_at.Statement.{statement}
-use Rattle.schedule.proofs.number.decimal_at.Tie as tie
+use Rattle.schedule.proofs.number.decimal_ahead.Statement.{statement}
+use Rattle.schedule.proofs.number.decimal_ahead.Tie as tie
 
 returns : tie.Need-returns
 returns c = sym (number-none _ _ (sym (c .before .is-digit .ensures) ∙ not-true _ (c .if1 .taken)))
@@ -43,7 +43,7 @@ more-digits-requires c κs = (ahead-digit (c .before .before .before .before .be
 returns-4 : tie.Need-returns-4
 returns-4 c = c .more-digits .ensures ∙ sym (number-more _ _ (first (c .before .before .before .before .before) .is) (c .before .if3 .left))
 
-pub decimal-at-spec : {M : Type 1} → statement M
-decimal-at-spec =
+pub decimal-ahead-spec : {M : Type 1} → statement M
+decimal-ahead-spec =
     let more = tie.spec (λ c. search needs) (λ c κs. search needs) returns (λ c. search needs) shared-slice-read-second (λ c κs. search needs) sub-t11 cast-t12 in
-    tie.close (more (λ c. search needs) returns-2 returns-3 (λ c. search needs) sub-more-digits cast-more-digits more-digits-requires returns-4)
+    tie.close (more (λ c. search needs) returns-2 (λ c. search needs) returns-3 (λ c. search needs) sub-more-digits cast-more-digits more-digits-requires returns-4)
