@@ -22,7 +22,7 @@ use Rattle.schedule.specs.Schedule.{Schedule, Reading, sound, readFile, 
 use Rattle.schedule.specs.Lines.{Every}
 use Rattle.schedule.specs.Run.{ranOver, countsOf, begins, between, atEnd, hasRun, runBy, runOf}
 use Rattle.schedule.specs.Promise.{AddsUp, deciders, Promise, Promised}
-use Rattle.schedule.proofs.RoundTrip.File.{file-read}
+use Rattle.schedule.proofs.Files.First.{file-read}
 use Rattle.schedule.proofs.Running.Decided.{start-decided, reached-start, reached-after, run-decided}
 
 -- ---- the counts of a section

@@ -2,17 +2,16 @@
 use mathlib.Core.Path.{_≡_}
 use mathlib.Core.Bool.{false}
 use mathlib.Core.List.{List}
-use Prim.Native.Nat.{ℕ, _+_, _≤_}
+use Prim.Native.Nat.{ℕ, _≤_}
 use native.Mathlib.Omega.{arith}
 use lib.ListN.{length, length-append}
 use Rattle.text.specs.Number.{spelled}
 use Rattle.text.specs.Stands.{Stands}
 use Rattle.text.specs.declared.number.Number.the-variants.{Bad, Value}
-use Rattle.schedule.specs.Lines.{Item, broken, item, brokenAt, items, linesAt, linesOf}
-use Rattle.schedule.specs.Line.{spaced, ending, lineOf, Holdable, lineAt}
+use Rattle.schedule.specs.Lines.{Item, broken, item, brokenAt, linesAt, linesOf}
+use Rattle.schedule.specs.Line.{spaced, ending, lineAt}
 use Rattle.schedule.specs.Header.{headerOf, headerAt, countAt}
-use Rattle.schedule.specs.Values.{valueLine, valueAt}
-use Rattle.schedule.specs.Files.{Small}
+use Rattle.schedule.specs.Values.{valueAt}
 use Rattle.text.proofs.StandsLaws.{stands-high}
 use Rattle.text.proofs.StopLaws.{begins-low, begins-high}
 use Rattle.schedule.proofs.RoundTrip.Header.{header-read}

@@ -11,15 +11,9 @@ use Rattle.text.specs.Number.{spelled}
 use Rattle.text.specs.Stands.{Stands}
 use Rattle.schedule.specs.Lines.{Item, broken, item}
 use Rattle.schedule.specs.Line.{spaced, ending, lineOf, lineAt}
-use Rattle.schedule.specs.Values.{valueAt}
-use Rattle.schedule.specs.Header.{aloneAt}
 use Rattle.schedule.specs.Private.{NoLf}
-use Rattle.text.specs.declared.number.Number.{Number}
-use Rattle.text.specs.declared.number.Number.the-variants.{Bad, Value}
 use Rattle.text.proofs.StandsLaws.{stands-rest, stands-within, byte-stands}
 use Rattle.schedule.proofs.RoundTrip.StepLine.{line-read}
-use Rattle.schedule.proofs.RoundTrip.ValueLine.{value-read}
-use Rattle.schedule.proofs.RoundTrip.Header.{alone-read}
 
 -- the last byte between two places is LF
 pub record EndsInLf (s : List ℕ) (at m : ℕ) : Type 0 where

@@ -1,18 +1,16 @@
--- The round trip of files: the file of a schedule is read as that schedule, every accepted file is the file of what was read, and what is not accepted has one of three faults.
--- Assumes nothing.
+-- The round trip of files: the file of a schedule is read as that schedule; and what an accepted section holds stands there. Assumes nothing.
 use mathlib.Core.Path.{_≡_, refl, sym, ap, _∙_, subst}
 use mathlib.Core.Bool.{Bool, true, false}
 use mathlib.Core.List.{List, _++_, append-nil}
-use mathlib.Core.Logic.{_⊎_, inl, inr}
 use Prim.Native.Nat.{ℕ, _+_, _-_, _≤_, _<_}
 use native.Mathlib.Omega.{arith}
-use lib.Dec.{eqb, leb}
+use lib.Dec.{leb}
 use lib.ListN.{length}
 use lib.Seq.{drop-length}
-use borrow.Author.Tests.{le-leb, lt-leb, leb-true, eq-eqb, eqb-true}
+use borrow.Author.Tests.{le-leb, lt-leb, leb-true, leb-false, eq-eqb}
 use Rattle.rules.specs.Limits.{greatestSize, among}
 use Rattle.rules.specs.declared.step.Step.{Step}
-use Rattle.rules.proofs.Cited.{among-true, among-in}
+use Rattle.rules.proofs.Cited.{among-in}
 use Rattle.schedule.specs.Limits.{longest, mostSteps}
 use Rattle.text.specs.Number.{pick, most}
 use Rattle.text.specs.Stands.{Stands}
@@ -20,7 +18,7 @@ use Rattle.schedule.specs.Lines.{Item, item, Items, brokenAt, items, onI
 use Rattle.schedule.specs.Line.{onNumber, lineAt, lineOf, Holdable}
 use Rattle.schedule.specs.Header.{headerAt, headerOf, countAt, valuesWord, warmupWord, measuredWord}
 use Rattle.schedule.specs.Values.{valueAt, valueLine}
-use Rattle.schedule.specs.Schedule.{Schedule, sectionOf, fileOf, Fits, Reading, faulty, sound, faultAt, tooLong, Part, noPart, part, onPart, partAt, measuredFrom, warmupFrom, valuesFrom, readFile}
+use Rattle.schedule.specs.Schedule.{Schedule, sectionOf, fileOf, Fits, faulty, sound, faultAt, tooLong, Part, noPart, part, partAt, measuredFrom, warmupFrom, valuesFrom, readFile}
 use Rattle.schedule.specs.Lines.{Every}
 use Rattle.schedule.specs.declared.fault.Fault.{Fault}
 use Rattle.text.specs.declared.number.Number.{Number}
@@ -40,19 +38,6 @@ stands-whole : (s l : List ℕ) → Stands s 0 (length s) l → s ≡ l
 stands-whole s l p = p .here ∙ ap (λ (t : List ℕ). l ++ t) (drop-length s) ∙ append-nil l
 
 -- ---- sections
-
--- the refusal's numbers for a file: 9, 1, 10
-pub record Numbered (f : Fault) : Type 0 where
-  pub is : (f .number ≡ 9) ⊎ ((f .number ≡ 1) ⊎ (f .number ≡ 10))
-
-nine : (line from place : ℕ) → Numbered (faultAt 9 line from place)
-nine line from place = record { is = inl refl }
-
-one : (line from place : ℕ) → Numbered (faultAt 1 line from place)
-one line from place = record { is = inr (inl refl) }
-
-ten : (line from place : ℕ) → Numbered (faultAt 10 line from place)
-ten line from place = record { is = inr (inr refl) }
 
 -- a section that is read stands
 module _ {A : Type 0} (s : List ℕ) (at : ℕ) (w : List ℕ) (f : ℕ → Item A) (P : A → Type 0) (g : A → List ℕ)
@@ -86,8 +71,14 @@ module _ (s : List ℕ) (at : ℕ) (w : List ℕ) (line left : ℕ) where
       part-got ss k a m (header-spelled s at w a k g (stands-first s at m (headerOf w k) (linesOf lineOf ss) p)) h
       (lines-spelled s (lineAt s) lineOf Holdable (line-spelled s) ss k 0 a m refl q (stands-rest s at m (headerOf w k) (linesOf lineOf ss) p))
 
-  abbrev PartSound : Part → Type 0
-  PartSound (noPart f) = Numbered f
+  -- one that is not read: its first line breaks the form, or has too great a count, or another line breaks the form
+  pub data PartFault (f : Fault) : Type 0 where
+    no-header : (p : ℕ) → headerAt s at w ≡ Bad p → f ≡ faultAt 9 line at p → PartFault f
+    too-many : (k a : ℕ) → headerAt s at w ≡ Value k a → left < k → f ≡ faultAt 10 line at (countAt at w) → PartFault f
+    bad-line : (k a i from p : ℕ) → headerAt s at w ≡ Value k a → k ≤ left → linesAt (lineAt s) k 0 a ≡ brokenAt i from p → f ≡ faultAt 9 (line + 1 + i) from p → PartFault f
+
+  abbrev pub PartSound : Part → Type 0
+  PartSound (noPart f) = PartFault f
   PartSound (part ss m) = PartRead s at w left ss m
 
   part-made : (k a : ℕ) (ss : List Step) (m : ℕ) → headerAt s at w ≡ Value k a → k ≤ left → linesAt (lineAt s) k 0 a ≡ items ss m → PartRead s at w left ss m
@@ -104,30 +95,25 @@ module _ (s : List ℕ) (at : ℕ) (w : List ℕ) (line left : ℕ) where
       }
 
   part-lines : (k a : ℕ) → headerAt s at w ≡ Value k a → k ≤ left → (r : Items Step) → linesAt (lineAt s) k 0 a ≡ r → PartSound (onItems r (λ i from p. noPart (faultAt 9 (line + 1 + i) from p)) part)
-  part-lines k a e h (brokenAt i from p) f = nine (line + 1 + i) from p
+  part-lines k a e h (brokenAt i from p) f = bad-line k a i from p e h f refl
   part-lines k a e h (items ss m) f = part-made k a ss m e h f
 
   part-limit : (k a : ℕ) → headerAt s at w ≡ Value k a → (x : Bool) → leb k left ≡ x
       → PartSound (pick x (onItems (linesAt (lineAt s) k 0 a) (λ i from p. noPart (faultAt 9 (line + 1 + i) from p)) part) (noPart (faultAt 10 line at (countAt at w))))
-  part-limit k a e false h = ten line at (countAt at w)
+  part-limit k a e false h = too-many k a e (leb-false k left h) refl
   part-limit k a e true h = part-lines k a e (leb-true k left h) (linesAt (lineAt s) k 0 a) refl
 
   part-header : (r : Number) → headerAt s at w ≡ r → PartSound (onNumber r (λ p. noPart (faultAt 9 line at p))
       (λ k a. pick (leb k left) (onItems (linesAt (lineAt s) k 0 a) (λ i from p. noPart (faultAt 9 (line + 1 + i) from p)) part) (noPart (faultAt 10 line at (countAt at w)))))
-  part-header (Bad p) e = nine line at p
+  part-header (Bad p) e = no-header p e refl
   part-header (Value k a) e = part-limit k a e (leb k left) refl
 
-  part-sound : PartSound (partAt s at w line left)
+  pub part-sound : PartSound (partAt s at w line left)
   unfolding partAt
   part-sound = part-header (headerAt s at w) refl
 
-  -- a section that is read stands ..
   pub part-read : (ss : List Step) (m : ℕ) → partAt s at w line left ≡ part ss m → PartRead s at w left ss m
   part-read ss m e = subst PartSound e part-sound
-
-  -- .. and one that is not has a fault
-  pub part-faults : (f : Fault) → partAt s at w line left ≡ noPart f → Numbered f
-  part-faults f e = subst PartSound e part-sound
 
 -- ---- what is spelled is read
 
@@ -198,125 +184,3 @@ opened s n a vs m e h f =
       small = r .1;
       stands = r .2;
     }
-
--- what is true of a file that is read so
-abbrev FileSound : List ℕ → Reading → Type 0
-FileSound s (faulty f) = Numbered f
-FileSound s (sound h) = (s ≡ fileOf h) × Fits h
-
-module _ (s : List ℕ) (short : length s ≤ longest) where
-  module _ (vs : List ℕ) (at : ℕ) (o : Opened s vs at) where
-    module _ (ws : List Step) (b : ℕ) (w : PartRead s at warmupWord mostSteps ws b) where
-      file-made : (ms : List Step) → PartRead s b measuredWord (mostSteps - length ws) ms (length s) → FileSound s (sound (record { values = vs; warmup = ws; measured = ms }))
-      file-made ms m =
-          let h : Schedule = record { values = vs; warmup = ws; measured = ms } in
-          let second : List ℕ = sectionOf warmupWord lineOf ws in
-          let third : List ℕ = sectionOf measuredWord lineOf ms in
-          let same : s ≡ fileOf h =
-          stands-whole s (fileOf h) (stands-join s 0 at (length s) (sectionOf valuesWord valueLine vs) (second ++ third) (o .stands)
-          (stands-join s at b (length s) second third (w .stands) (m .stands))) in
-          let before = w .few in
-          let behind = m .few in (
-            same,
-            record {
-              some = o .some;
-              few = o .few;
-              small = o .small;
-              warmup = w .holds;
-              measured = m .holds;
-              steps = omega arith;
-              short = subst (λ (t : List ℕ). length t ≤ longest) same short;
-            },
-          )
-
-      measured-end : (ms : List Step) (m : ℕ) → PartRead s b measuredWord (mostSteps - length ws) ms m → (x : Bool) → eqb m (length s) ≡ x
-          → FileSound s (pick x (sound (record { values = vs; warmup = ws; measured = ms })) (faulty (faultAt 9 (length vs + length ws + length ms + 4) m m)))
-      measured-end ms m p false e = nine (length vs + length ws + length ms + 4) m m
-      measured-end ms m p true e = file-made ms (subst (PartRead s b measuredWord (mostSteps - length ws) ms) (eqb-true m (length s) e) p)
-
-      measured-part : (r : Part) → PartSound s b measuredWord (length vs + length ws + 3) (mostSteps - length ws) r
-          → FileSound s (onPart r (λ ms m. pick (eqb m (length s)) (sound (record { values = vs; warmup = ws; measured = ms })) (faulty (faultAt 9 (length vs + length ws + length ms + 4) m m))))
-      measured-part (noPart f) p = p
-      measured-part (part ms m) p = measured-end ms m p (eqb m (length s)) refl
-
-      measured-sound : FileSound s (measuredFrom s vs ws b)
-      unfolding measuredFrom
-      measured-sound =
-          measured-part (partAt s b measuredWord (length vs + length ws + 3) (mostSteps - length ws)) (part-sound s b measuredWord (length vs + length ws + 3) (mostSteps - length ws))
-
-    warmup-part : (r : Part) → PartSound s at warmupWord (length vs + 2) mostSteps r → FileSound s (onPart r (measuredFrom s vs))
-    warmup-part (noPart f) p = p
-    warmup-part (part ws b) p = measured-sound ws b p
-
-    warmup-sound : FileSound s (warmupFrom s vs at)
-    unfolding warmupFrom
-    warmup-sound = warmup-part (partAt s at warmupWord (length vs + 2) mostSteps) (part-sound s at warmupWord (length vs + 2) mostSteps)
-
-  values-lines : (n a : ℕ) → headerAt s 0 valuesWord ≡ Value n a → (1 ≤ n) × (n ≤ greatestSize) → (r : Items ℕ) → linesAt (valueAt s) n 0 a ≡ r
-      → FileSound s (onItems r (λ i from p. faulty (faultAt 9 (2 + i) from p)) (warmupFrom s))
-  values-lines n a e h (brokenAt i from p) f = nine (2 + i) from p
-  values-lines n a e h (items vs m) f = warmup-sound vs m (opened s n a vs m e h f)
-
-  values-limit : (n a : ℕ) → headerAt s 0 valuesWord ≡ Value n a → (x : Bool) → among greatestSize n ≡ x
-      → FileSound s (pick x (onItems (linesAt (valueAt s) n 0 a) (λ i from p. faulty (faultAt 9 (2 + i) from p)) (warmupFrom s)) (faulty (faultAt 1 1 0 (countAt 0 valuesWord))))
-  values-limit n a e false h = one 1 0 (countAt 0 valuesWord)
-  values-limit n a e true h = values-lines n a e (among-true greatestSize n h) (linesAt (valueAt s) n 0 a) refl
-
-  values-header : (r : Number) → headerAt s 0 valuesWord ≡ r → FileSound s (onNumber r (λ p. faulty (faultAt 9 1 0 p))
-      (λ n a. pick (among greatestSize n) (onItems (linesAt (valueAt s) n 0 a) (λ i from p. faulty (faultAt 9 (2 + i) from p)) (warmupFrom s)) (faulty (faultAt 1 1 0 (countAt 0 valuesWord)))))
-  values-header (Bad p) e = nine 1 0 p
-  values-header (Value n a) e = values-limit n a e (among greatestSize n) refl
-
-  values-sound : FileSound s (valuesFrom s)
-  unfolding valuesFrom
-  values-sound = values-header (headerAt s 0 valuesWord) refl
-
-file-pick : (s : List ℕ) (x : Bool) → leb (length s) longest ≡ x → FileSound s (pick x (valuesFrom s) (faulty tooLong))
-file-pick s false e = record { is = inr (inr refl) }
-file-pick s true e = values-sound s (leb-true (length s) longest e)
-
-file-sound : (s : List ℕ) → FileSound s (readFile s)
-unfolding readFile
-file-sound s = file-pick s (leb (length s) longest) refl
-
--- an accepted file is the file of what was read ..
-pub file-read : (s : List ℕ) (h : Schedule) → readFile s ≡ sound h → (s ≡ fileOf h) × Fits h
-file-read s h e = subst (FileSound s) e (file-sound s)
-
--- .. so that no two files are read as one schedule
-pub one-file : (s t : List ℕ) (h : Schedule) → readFile s ≡ sound h → readFile t ≡ sound h → s ≡ t
-one-file s t h e f = file-read s h e .0 ∙ sym (file-read t h f .0)
-
--- ---- what is not accepted
-
-pub file-faults : (s : List ℕ) (f : Fault) → readFile s ≡ faulty f → Numbered f
-file-faults s f e = subst (FileSound s) e (file-sound s)
-
-numbered-cases : (f : Fault) → (f .number ≡ 9) ⊎ ((f .number ≡ 1) ⊎ (f .number ≡ 10)) → 1 ≤ f .number
-numbered-cases f (inl e) = omega arith
-numbered-cases f (inr (inl e)) = omega arith
-numbered-cases f (inr (inr e)) = omega arith
-
--- no fault has the number 0, which says that there is none
-pub numbered-some : (f : Fault) → Numbered f → 1 ≤ f .number
-numbered-some f h = numbered-cases f (h .is)
-
-pub fault-numbered : (s : List ℕ) (f : Fault) → readFile s ≡ faulty f → 1 ≤ f .number
-fault-numbered s f e = numbered-some f (file-faults s f e)
-
--- every file is accepted or has a fault ..
-pub accepted-or-faulty : (s : List ℕ) → ((h : Schedule) × (readFile s ≡ sound h)) ⊎ ((f : Fault) × (readFile s ≡ faulty f))
-accepted-or-faulty s = go (readFile s) refl
-  where
-    go : (r : Reading) → readFile s ≡ r → ((h : Schedule) × (readFile s ≡ sound h)) ⊎ ((f : Fault) × (readFile s ≡ faulty f))
-    go (sound h) e = inl (h, e)
-    go (faulty f) e = inr (f, e)
-
-isSound : Reading → ℕ
-isSound (sound h) = 1
-isSound (faulty f) = 0
-
--- .. and none both
-pub not-both : (s : List ℕ) (h : Schedule) (f : Fault) → readFile s ≡ sound h → readFile s ≡ faulty f → ⊥
-unfolding isSound
-not-both s h f e g = let u : _≡_ {A = ℕ} 0 1 = ap isSound (sym g ∙ e) in omega arith

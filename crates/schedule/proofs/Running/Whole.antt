@@ -29,7 +29,7 @@ use Rattle.schedule.specs.declared.file.Places.{Places}
 use Rattle.schedule.specs.declared.run.Ran.{Ran}
 use Rattle.schedule.specs.Counts.{countsIn}
 use Rattle.schedule.proofs.Running.Counts.{counted-is}
-use Rattle.schedule.proofs.RoundTrip.File.{file-read}
+use Rattle.schedule.proofs.Files.First.{file-read}
 
 -- ---- a sound group over long stores stays so
 

@@ -1,5 +1,4 @@
 -- The end that is read says which case of `endedAt` holds. Assumes nothing.
-use mathlib.Core.Path.{_≡_, refl, sym, ap, ap₂, _∙_}
 use borrow.Author.Needs.{needs}
 use Rattle.schedule.proofs.Reading.Cases.{line-bad, line-good, ended-none, ended-is}
 use Rattle.schedule.proofs.line.ended_at.Statement.{statement}
