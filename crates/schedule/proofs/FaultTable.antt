@@ -14,4 +14,4 @@ unfolding isDigit scan numberAt
     among Every before linesAt
     numbersAfter mayCut stepOf closed spacedAt nextNumber endAt endedAt afterLetter lineAt
     wordAt aloneAt headerAt valueAt partAt measuredFrom warmupFrom valuesFrom readFile
-fault-table-holds = (refl, (refl, (refl, (refl, (refl, (refl, (refl, (refl, (refl, (refl, (refl, (refl, (refl, (refl, (refl, (refl, (refl, (refl, (refl, (refl, (refl, (refl, (refl, (refl, (refl, (refl, (refl, (refl, (refl, (refl, (refl, tt)))))))))))))))))))))))))))))))
+fault-table-holds = (refl, (refl, (refl, (refl, (refl, (refl, (refl, (refl, (refl, (refl, (refl, (refl, (refl, (refl, (refl, (refl, (refl, (refl, (refl, (refl, (refl, (refl, (refl, (refl, (refl, (refl, (refl, (refl, (refl, (refl, (refl, (refl, tt))))))))))))))))))))))))))))))))

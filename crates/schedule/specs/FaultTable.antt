@@ -32,6 +32,8 @@ faultTable =
     bad [] 9 1 1 ∷
     -- another letter in the word, `VALUEZ 1`
     bad (86 ∷ 65 ∷ 76 ∷ 85 ∷ 69 ∷ 90 ∷ 32 ∷ 49 ∷ 10 ∷ []) 9 1 6 ∷
+    -- the file ends inside the word, `VAL`
+    bad (86 ∷ 65 ∷ 76 ∷ []) 9 1 4 ∷
     -- no space behind it, `VALUES1`
     bad (86 ∷ 65 ∷ 76 ∷ 85 ∷ 69 ∷ 83 ∷ 49 ∷ 10 ∷ []) 9 1 7 ∷
     -- no count, `VALUES`

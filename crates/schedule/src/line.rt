@@ -111,14 +111,14 @@ pub(crate) enum End {
 pub(crate) fn end_at(s: &[u8], at: usize, may: bool) -> End
     ensures { λ r. ⌜ r ≡ endAt (now (s .entry)) at may ⌝ }
 {
-    let b = byte_at(s, at);
-    if b == 10 {
+    let first = byte_at(s, at);
+    if first == 10 {
         return End::Ends(false, at + 1);
     }
     if !may {
         return End::NoEnd(at);
     }
-    if b != 32 {
+    if first != 32 {
         return End::NoEnd(at);
     }
     if byte_at(s, at + 1) != 88 {
