@@ -16,7 +16,7 @@ loop-holds : tie.Need-loop-holds Inv-loop μ-loop
 loop-holds c = checking-none _ _ _
 
 returns : tie.Need-returns Inv-loop μ-loop
-returns c = checking-late (c .before .before .loop .inv) (c .before .before .before .before .pre) (c .before .loop-test .taken) (c .if1 .taken)
+returns c = checking-late (c .before .before .loop .inv) (c .before .before .before .before .pre) (c .before .loop-test .taken) (omega (arith, c .if1 .taken))
 
 line-end-at-requires : tie.Need-line-end-at-requires Inv-loop μ-loop
 line-end-at-requires c κs = ahead-last (c .before .before .before .before .pre) (c .if1 .left)
