@@ -1,5 +1,6 @@
 -- What is spelled is read, and what is read is spelled.
 pub mod StepLine
+pub mod Found
 pub mod ValueLine
 pub mod Header
 pub mod Rows

@@ -27,7 +27,7 @@ use Rattle.schedule.specs.Schedule.{Schedule, sectionOf, fileOf, Fits, R
 use Rattle.schedule.specs.Files.{Small, Size, atValues, atValue, atWarmup, atWarmupStep, atMeasured, atMeasuredStep, atEnd, bytesBefore, ValuesKept, WarmupKept}
 use Rattle.schedule.specs.Files.{lineFeeds, FirstFault}
 use Rattle.schedule.specs.declared.fault.Fault.{Fault}
-use Rattle.schedule.proofs.RoundTrip.StepLine.{line-read}
+use Rattle.schedule.proofs.RoundTrip.Found.{line-read}
 use Rattle.schedule.proofs.RoundTrip.ValueLine.{value-read}
 use Rattle.schedule.proofs.RoundTrip.File.{PartRead, PartFault, no-header, too-many, bad-line, PartSound, part-sound, opened, read-got, read-long}
 use Rattle.schedule.proofs.Stops.Breaks.{line-breaks, value-breaks, header-breaks}

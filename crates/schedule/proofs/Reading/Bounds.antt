@@ -16,10 +16,10 @@ use Rattle.text.proofs.StandsLaws.{stands-high}
 use Rattle.text.proofs.StopLaws.{begins-low, begins-high}
 use Rattle.schedule.proofs.RoundTrip.Header.{header-read}
 use Rattle.schedule.proofs.RoundTrip.Rows.{lines-read}
-use Rattle.schedule.proofs.RoundTrip.StepLine.{line-read}
+use Rattle.schedule.proofs.RoundTrip.Found.{Begun, line-read, line-begins}
 use Rattle.schedule.proofs.RoundTrip.ValueLine.{value-read}
 use Rattle.schedule.proofs.Reading.InARow.{lines-ahead}
-use Rattle.schedule.proofs.Stops.Begins.{Begun, line-begins, value-begins, header-begins}
+use Rattle.schedule.proofs.Stops.Begins.{value-begins, header-begins}
 
 -- a place of the line that begins at from, or the end of the file
 abbrev pub Within : List ℕ → ℕ → ℕ → Type 0

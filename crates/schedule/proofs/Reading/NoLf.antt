@@ -13,7 +13,7 @@ use Rattle.schedule.specs.Lines.{Item, broken, item}
 use Rattle.schedule.specs.Line.{spaced, ending, lineOf, lineAt}
 use Rattle.schedule.specs.Private.{NoLf}
 use Rattle.text.proofs.StandsLaws.{stands-rest, stands-within, byte-stands}
-use Rattle.schedule.proofs.RoundTrip.StepLine.{line-read}
+use Rattle.schedule.proofs.RoundTrip.Found.{line-read}
 
 -- the last byte between two places is LF
 pub record EndsInLf (s : List ℕ) (at m : ℕ) : Type 0 where

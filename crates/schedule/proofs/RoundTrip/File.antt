@@ -24,7 +24,8 @@ use Rattle.schedule.specs.declared.fault.Fault.{Fault}
 use Rattle.text.specs.declared.number.Number.{Number}
 use Rattle.text.specs.declared.number.Number.the-variants.{Bad, Value}
 use Rattle.text.proofs.StandsLaws.{stands-join, stands-first, stands-rest}
-use Rattle.schedule.proofs.RoundTrip.StepLine.{line-spelled, line-read}
+use Rattle.schedule.proofs.RoundTrip.StepLine.{line-spelled}
+use Rattle.schedule.proofs.RoundTrip.Found.{line-read}
 use Rattle.schedule.proofs.RoundTrip.ValueLine.{value-spelled, value-read}
 use Rattle.schedule.proofs.RoundTrip.Header.{header-spelled, header-read}
 use Rattle.schedule.proofs.RoundTrip.Rows.{lines-spelled, lines-read}

@@ -17,7 +17,9 @@ use Rattle.schedule.specs.declared.header.Word.{Word}
 use Rattle.schedule.specs.declared.header.Word.the-variants.{Missing, Past}
 use Rattle.schedule.proofs.Reading.Cases.{closed-is, closed-read}
 use Rattle.text.proofs.StandsLaws.{stands-none, stands-join, stands-first, stands-rest, stands-byte, stands-tail, stands-here, stands-within, byte-stands}
-use Rattle.schedule.proofs.RoundTrip.StepLine.{quiet-byte, spaced-spelled, SpacedSound, spaced-sound}
+use Rattle.schedule.specs.Files.{Small}
+use Rattle.schedule.proofs.RoundTrip.StepLine.{quiet-byte, spaced-spelled}
+use Rattle.schedule.proofs.RoundTrip.Found.{head-stands, Form, spaced-form}
 
 -- ---- a space, a number and LF
 
@@ -32,8 +34,8 @@ module _ (s : List ℕ) where
   unfolding aloneAt
   alone-read at m v e =
       let c = closed-read s (spacedAt s at) v m e in
-      let h = subst (SpacedSound s at) (c .is) (spaced-sound s at) in
-      (h .0, subst (λ (k : ℕ). Stands s at k (spaced v (ending false))) (c .end) (h .1 (c .place + 1) (10 ∷ []) (stands-byte s (c .place) 10 (omega arith) (c .lf))))
+      let h = subst (Form s Small spaced at) (c .is) (spaced-form s at) in
+      (h .0, subst (λ (k : ℕ). Stands s at k (spaced v (ending false))) (c .end) (head-stands s (c .place + 1) (10 ∷ []) (h .1) (stands-byte s (c .place) 10 (omega arith) (c .lf))))
 
 -- ---- a word
 

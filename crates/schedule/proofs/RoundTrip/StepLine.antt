@@ -1,4 +1,4 @@
--- The round trip of step lines: what is spelled is read, and what is read is spelled. Assumes nothing.
+-- The round trip of step lines, one way: what is spelled is read. The other way is in Found. Assumes nothing.
 use mathlib.Core.Path.{_≡_, refl, sym, ap, _∙_, subst}
 use mathlib.Core.Bool.{Bool, true, false}
 use mathlib.Core.List.{List, [], _∷_, _++_}
@@ -9,19 +9,18 @@ use lib.ListN.{length, getD}
 use borrow.Author.Tests.{eqb-true, lt-ltb}
 use Rattle.rules.specs.declared.step.Step.{Step}
 use Rattle.rules.specs.declared.step.Step.the-variants.{DeliverE, DeliverS, DeliverF, DeliverDecision, Suspect, Pause, Crash, Recover}
-use Rattle.text.specs.Number.{pick, isDigit, most, numberAt, spelled}
+use Rattle.text.specs.Number.{pick, isDigit, most, spelled}
 use Rattle.text.specs.Stands.{Stands}
-use Rattle.schedule.specs.Lines.{Item, broken, item}
+use Rattle.schedule.specs.Lines.{item}
 use Rattle.rules.specs.Kinds.{numbersOf, roundOf}
 use Rattle.schedule.specs.Lines.{Every}
-use Rattle.schedule.specs.Line.{ending, spaced, lineOf, Holdable, numbersAfter, mayCut, stepOf, onNumber, onEnd, spacedAt, nextNumber, endAt, endedAt, afterLetter, lineAt}
-use Rattle.schedule.specs.declared.line.End.{End}
-use Rattle.schedule.specs.declared.line.End.the-variants.{NoEnd, Ends}
+use Rattle.schedule.specs.Line.{ending, spaced, lineOf, Holdable, numbersAfter, mayCut, stepOf, spacedAt, nextNumber, endAt, endedAt, afterLetter, lineAt}
+use Rattle.schedule.specs.declared.line.End.the-variants.{Ends}
 use Rattle.text.specs.declared.number.Number.{Number}
-use Rattle.text.specs.declared.number.Number.the-variants.{Bad, Value}
+use Rattle.text.specs.declared.number.Number.the-variants.{Value}
 use Rattle.schedule.proofs.Reading.Cases.{spaced-is, next-wanted, next-none, end-plain, end-cut}
-use Rattle.text.proofs.StandsLaws.{stands-join, stands-first, stands-rest, stands-byte, byte-stands, stands-cons, stands-tail}
-use Rattle.text.proofs.SpellLaws.{number-spelled, number-read}
+use Rattle.text.proofs.StandsLaws.{stands-first, stands-rest, byte-stands, stands-tail}
+use Rattle.text.proofs.SpellLaws.{number-spelled}
 
 -- ---- what follows a letter, over the count of its numbers
 
@@ -199,123 +198,3 @@ module _ (s : List ℕ) where
   line-spelled at m (Pause i) h p = lettered 80 at m i 0 0 false refl (record { first = h .0 .0; second = refl; third = refl; cut = refl }) p
   line-spelled at m (Crash i) h p = lettered 67 at m i 0 0 false refl (record { first = h .0 .0; second = refl; third = refl; cut = refl }) p
   line-spelled at m (Recover i) h p = lettered 82 at m i 0 0 false refl (record { first = h .0 .0; second = refl; third = refl; cut = refl }) p
-
--- ---- what is read is spelled: a property of what is found, for each case of it
-
-module _ (s : List ℕ) where
-  abbrev pub SpacedSound : ℕ → Number → Type 0
-  SpacedSound at (Bad p) = Unit {0}
-  SpacedSound at (Value v n) = (v ≤ most) × ((m : ℕ) (l : List ℕ) → Stands s n m l → Stands s at m (spaced v l))
-
-  abbrev NextSound : ℕ → Bool → Number → Type 0
-  NextSound at w (Bad p) = Unit {0}
-  NextSound at w (Value v n) = WantedSmall w v × ((m : ℕ) (l : List ℕ) → Stands s n m l → Stands s at m (wantedText w v l))
-
-  abbrev EndSound : ℕ → Bool → End → Type 0
-  EndSound at may (NoEnd p) = Unit {0}
-  EndSound at may (Ends x m) = CutOnly may x × Stands s at m (ending x)
-
-  abbrev LineSound : ℕ → Item Step → Type 0
-  LineSound at (broken p) = Unit {0}
-  LineSound at (item st m) = Holdable st × Stands s at m (lineOf st)
-
-  spaced-number : (at : ℕ) → getD s at 0 ≡ 32 → (r : Number) → numberAt s (at + 1) ≡ r → SpacedSound at r
-  spaced-number at e (Bad p) q = tt
-  spaced-number at e (Value v n) q =
-      let k = number-read s (at + 1) v n q in
-      (k .small, λ m l p. stands-cons s at m 32 (spelled v ++ l) (omega arith) e (stands-join s (at + 1) n m (spelled v) l (k .stands) p))
-
-  spaced-pick : (at : ℕ) (x : Bool) → eqb (getD s at 0) 32 ≡ x → SpacedSound at (pick x (numberAt s (at + 1)) (Bad at))
-  spaced-pick at true e = spaced-number at (eqb-true (getD s at 0) 32 e) (numberAt s (at + 1)) refl
-  spaced-pick at false e = tt
-
-  pub spaced-sound : (at : ℕ) → SpacedSound at (spacedAt s at)
-  unfolding spacedAt
-  spaced-sound at = spaced-pick at (eqb (getD s at 0) 32) refl
-
-  next-of : (at : ℕ) (r : Number) → SpacedSound at r → NextSound at true r
-  next-of at (Bad p) h = tt
-  next-of at (Value v n) h = h
-
-  next-sound : (at : ℕ) (w : Bool) → NextSound at w (nextNumber s at w)
-  unfolding nextNumber
-  next-sound at true = next-of at (spacedAt s at) (spaced-sound at)
-  next-sound at false = (refl, λ m l p. p)
-
-  plain : (may : Bool) → CutOnly may false
-  plain true = tt
-  plain false = refl
-
-  end-pick : (at : ℕ) (may x : Bool) → eqb (getD s at 0) 10 ≡ x → (y : Bool) → eqb (getD s at 0) 32 ≡ y → (z : Bool) → eqb (getD s (at + 1) 0) 88 ≡ z
-      → (w : Bool) → eqb (getD s (at + 2) 0) 10 ≡ w
-      → EndSound at may (pick x (Ends false (at + 1)) (pick may (pick y (pick z (pick w (Ends true (at + 3)) (NoEnd (at + 2))) (NoEnd (at + 1))) (NoEnd at)) (NoEnd at)))
-  end-pick at may true e y f z g w h = (plain may, stands-byte s at 10 (omega arith) (eqb-true (getD s at 0) 10 e))
-  end-pick at false false e y f z g w h = tt
-  end-pick at true false e false f z g w h = tt
-  end-pick at true false e true f false g w h = tt
-  end-pick at true false e true f true g false h = tt
-  end-pick at true false e true f true g true h =
-      let last : Stands s (at + 1 + 1) (at + 1 + 1 + 1) (10 ∷ []) =
-      stands-byte s (at + 1 + 1) 10 (omega arith) (ap (λ (k : ℕ). getD s k 0) (omega arith) ∙ eqb-true (getD s (at + 2) 0) 10 h) in (
-        tt,
-        subst (λ (m : ℕ). Stands s at m (ending true)) (omega arith)
-            (stands-cons s at (at + 1 + 1 + 1) 32 (88 ∷ 10 ∷ []) (omega arith) (eqb-true (getD s at 0) 32 f)
-            (stands-cons s (at + 1) (at + 1 + 1 + 1) 88 (10 ∷ []) (omega arith) (eqb-true (getD s (at + 1) 0) 88 g) last)),
-      )
-
-  end-sound : (at : ℕ) (may : Bool) → EndSound at may (endAt s at may)
-  unfolding endAt
-  end-sound at may = end-pick at may (eqb (getD s at 0) 10) refl (eqb (getD s at 0) 32) refl (eqb (getD s (at + 1) 0) 88) refl (eqb (getD s (at + 2) 0) 10) refl
-
-  -- the letter b at a place, and number by number what follows it
-  module _ (at b : ℕ) (e : getD s at 0 ≡ b) (t : Letter b) where
-    abbrev second : Bool
-    second = ltb 1 (numbersAfter b)
-
-    abbrev third : Bool
-    third = ltb 2 (numbersAfter b)
-
-    after-end : (i j r n k l : ℕ) → NextSound (at + 1) true (Value i n) → NextSound n second (Value j k) → NextSound k third (Value r l)
-        → (q : End) → EndSound l (mayCut b) q → LineSound at (onEnd q broken (λ x m. item (stepOf b i j r x) m))
-    after-end i j r n k l f g h (NoEnd p) c = tt
-    after-end i j r n k l f g h (Ends x m) c =
-        let body : Body b i j r x = record { first = f .0; second = g .0; third = h .0; cut = c .0 } in
-        let last : List ℕ = wantedText third r (ending x) in
-        let stand : Stands s (at + 1) m (bodyOf b i j r x) = f .1 m (wantedText second j last) (g .1 m last (h .1 m (ending x) (c .1))) in
-        (t .holds i j r x body, subst (Stands s at m) (sym (t .line i j r x body)) (stands-cons s at m b (bodyOf b i j r x) (t .byte) e stand))
-
-    ended-sound : (i j r n k l : ℕ) → NextSound (at + 1) true (Value i n) → NextSound n second (Value j k) → NextSound k third (Value r l) → LineSound at (endedAt b i j r s l)
-    unfolding endedAt
-    ended-sound i j r n k l f g h = after-end i j r n k l f g h (endAt s l (mayCut b)) (end-sound l (mayCut b))
-
-    after-third : (i j n k : ℕ) → NextSound (at + 1) true (Value i n) → NextSound n second (Value j k) → (q : Number) → NextSound k third q
-        → LineSound at (onNumber q broken (λ r l. endedAt b i j r s l))
-    after-third i j n k f g (Bad p) h = tt
-    after-third i j n k f g (Value r l) h = ended-sound i j r n k l f g h
-
-    after-second : (i n : ℕ) → NextSound (at + 1) true (Value i n) → (q : Number) → NextSound n second q
-        → LineSound at (onNumber q broken (λ j k. onNumber (nextNumber s k third) broken (λ r l. endedAt b i j r s l)))
-    after-second i n f (Bad p) g = tt
-    after-second i n f (Value j k) g = after-third i j n k f g (nextNumber s k third) (next-sound k third)
-
-    after-first : (q : Number) → NextSound (at + 1) true q
-        → LineSound at (onNumber q broken (λ i n. onNumber (nextNumber s n second) broken
-        (λ j k. onNumber (nextNumber s k third) broken (λ r l. endedAt b i j r s l))))
-    after-first (Bad p) f = tt
-    after-first (Value i n) f = after-second i n f (nextNumber s n second) (next-sound n second)
-
-    after-sound : LineSound at (afterLetter b s (at + 1))
-    unfolding afterLetter
-    after-sound = after-first (nextNumber s (at + 1) true) (next-sound (at + 1) true)
-
-  line-pick : (at b : ℕ) → getD s at 0 ≡ b → (x : Bool) → eqb (numbersAfter b) 0 ≡ x → LineSound at (pick x (broken at) (afterLetter b s (at + 1)))
-  line-pick at b e true n = tt
-  line-pick at b e false n = after-sound at b e (letter b n)
-
-  line-sound : (at : ℕ) → LineSound at (lineAt s at)
-  unfolding lineAt
-  line-sound at = line-pick at (getD s at 0) refl (eqb (numbersAfter (getD s at 0)) 0) refl
-
-  -- whatever is read as a step, from one place up to another, is the line of that step
-  pub line-read : (at m : ℕ) (st : Step) → lineAt s at ≡ item st m → Holdable st × Stands s at m (lineOf st)
-  line-read at m st e = subst (LineSound at) e (line-sound at)

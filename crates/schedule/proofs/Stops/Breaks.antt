@@ -18,7 +18,8 @@ use Rattle.text.proofs.StopLaws.{Same}
 use Rattle.schedule.proofs.RoundTrip.StepLine.{line-spelled}
 use Rattle.schedule.proofs.RoundTrip.ValueLine.{value-spelled}
 use Rattle.schedule.proofs.RoundTrip.Header.{header-spelled}
-use Rattle.schedule.proofs.Stops.Begins.{Begun, line-begins, value-begins, header-begins}
+use Rattle.schedule.proofs.RoundTrip.Found.{Begun, line-begins}
+use Rattle.schedule.proofs.Stops.Begins.{value-begins, header-begins}
 use Rattle.schedule.proofs.Stops.Same.{line-same, value-same, header-same}
 
 -- a list stands where a text goes on with it
