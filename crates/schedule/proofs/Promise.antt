@@ -79,8 +79,8 @@ below v h = omega arith
 fits-begins : (h : Schedule) (l d : List ℕ) → Fits h → storeLength ≤ length l → storeLength ≤ length d → Begins (h .values) l d
 fits-begins h l d f long deep-long =
     record {
-      some = f .some;
-      few = f .few;
+      some = f .size .0;
+      few = f .size .1;
       small = λ i lt. below (getD (h .values) i 0) (every-at (λ v. v ≤ most) (h .values) 0 i (f .small) lt);
       long = long;
       deep-long = deep-long;

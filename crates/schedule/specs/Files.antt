@@ -6,26 +6,17 @@ use mathlib.Core.Logic.{_⊎_}
 use Prim.Native.Nat.{ℕ, _+_, _≤_, _<_}
 use lib.Dec.{eqb}
 use lib.ListN.{length}
-use Rattle.rules.specs.Limits.{greatestSize}
 use Rattle.rules.specs.Tally.{bitOf}
 use Rattle.rules.specs.declared.step.Step.{Step}
-use Rattle.text.specs.Number.{most}
 use Rattle.schedule.specs.Limits.{longest, mostSteps}
 use Rattle.schedule.specs.Lines.{Every, linesOf}
-use Rattle.schedule.specs.Line.{spaceByte, lineFeed, lineOf, Holdable}
+use Rattle.schedule.specs.Line.{spaceByte, lineFeed, lineOf, Small, Holdable}
 use Rattle.schedule.specs.Header.{valuesWord, warmupWord, measuredWord, headerOf}
 use Rattle.schedule.specs.Values.{valueLine}
-use Rattle.schedule.specs.Schedule.{Schedule, sectionOf, fileOf, Fits, faulty, sound, tooLong, readFile}
+use Rattle.schedule.specs.Schedule.{Schedule, sectionOf, fileOf, Size, Fits, faulty, sound, tooLong, readFile}
 use Rattle.schedule.specs.declared.fault.Fault.{Fault}
 
 -- ---- the lines of a file
-
--- a number that a file can hold, and a count of values that the rules allow
-abbrev pub Small : ℕ → Type 0
-Small v = v ≤ most
-
-abbrev pub Size : ℕ → Type 0
-Size n = (1 ≤ n) × (n ≤ greatestSize)
 
 -- where a line begins, by what the lines before it hold. Of a section that is not yet whole: its count, and what stands of it
 pub data Place : Type 0 where
@@ -45,7 +36,7 @@ bytesBefore (atWarmup vs) = sectionOf valuesWord valueLine vs
 bytesBefore (atWarmupStep vs k ws) = sectionOf valuesWord valueLine vs ++ (headerOf warmupWord k ++ linesOf lineOf ws)
 bytesBefore (atMeasured vs ws) = sectionOf valuesWord valueLine vs ++ sectionOf warmupWord lineOf ws
 bytesBefore (atMeasuredStep vs ws k ms) = sectionOf valuesWord valueLine vs ++ (sectionOf warmupWord lineOf ws ++ (headerOf measuredWord k ++ linesOf lineOf ms))
-bytesBefore (atEnd vs ws ms) = sectionOf valuesWord valueLine vs ++ (sectionOf warmupWord lineOf ws ++ sectionOf measuredWord lineOf ms)
+bytesBefore (atEnd vs ws ms) = fileOf (record { values = vs; warmup = ws; measured = ms })
 
 -- each of them is a line that is asked for where it stands, with a count that the rules allow
 abbrev pub ValuesKept : List ℕ → Type 0

@@ -75,9 +75,12 @@ lineOf (Pause i) = letterP ∷ spaced i (ending false)
 lineOf (Crash i) = letterC ∷ spaced i (ending false)
 lineOf (Recover i) = letterR ∷ spaced i (ending false)
 
--- each number of a step is one that a file can hold
+-- a number that a file can hold, and a step all of whose numbers are so
+abbrev pub Small : ℕ → Type 0
+Small v = v ≤ most
+
 abbrev pub Holdable : Step → Type 0
-Holdable s = Every (λ n. n ≤ most) (numbersOf s) × (roundOf s ≤ most)
+Holdable s = Every Small (numbersOf s) × Small (roundOf s)
 
 -- ---- how it is read
 

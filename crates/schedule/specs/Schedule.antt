@@ -6,9 +6,9 @@ use lib.ListN.{length}
 use Rattle.rules.specs.Limits.{greatestSize, among}
 use Rattle.rules.specs.declared.step.Step.{Step}
 use Rattle.schedule.specs.Limits.{longest, mostSteps}
-use Rattle.text.specs.Number.{pick, most}
+use Rattle.text.specs.Number.{pick}
 use Rattle.schedule.specs.Lines.{Every, onItems, linesAt, linesOf}
-use Rattle.schedule.specs.Line.{onNumber, lineAt, lineOf, Holdable}
+use Rattle.schedule.specs.Line.{onNumber, lineAt, lineOf, Small, Holdable}
 use Rattle.schedule.specs.Header.{headerAt, headerOf, countAt, valuesWord, warmupWord, measuredWord}
 use Rattle.schedule.specs.Values.{valueAt, valueLine}
 use Rattle.schedule.specs.declared.fault.Fault.{Fault}
@@ -29,11 +29,14 @@ sectionOf w f xs = headerOf w (length xs) ++ linesOf f xs
 abbrev pub fileOf : Schedule → List ℕ
 fileOf h = sectionOf valuesWord valueLine (h .values) ++ (sectionOf warmupWord lineOf (h .warmup) ++ sectionOf measuredWord lineOf (h .measured))
 
+-- a count of values that the rules allow
+abbrev pub Size : ℕ → Type 0
+Size n = (1 ≤ n) × (n ≤ greatestSize)
+
 -- a schedule that a file can hold
 pub record Fits (h : Schedule) : Type 0 where
-  pub some : 1 ≤ length (h .values)
-  pub few : length (h .values) ≤ greatestSize
-  pub small : Every (λ v. v ≤ most) (h .values)
+  pub size : Size (length (h .values))
+  pub small : Every Small (h .values)
   pub warmup : Every Holdable (h .warmup)
   pub measured : Every Holdable (h .measured)
   pub steps : length (h .warmup) + length (h .measured) ≤ mostSteps

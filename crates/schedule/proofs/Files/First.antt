@@ -20,11 +20,11 @@ use Rattle.text.specs.declared.number.Number.the-variants.{Bad, Value}
 use Rattle.text.proofs.StandsLaws.{stands-none, stands-join, stands-high}
 use Rattle.schedule.specs.Limits.{longest, mostSteps}
 use Rattle.schedule.specs.Lines.{Every, Items, brokenAt, items, onItems, linesAt, linesOf}
-use Rattle.schedule.specs.Line.{onNumber, lineAt, lineOf, Holdable}
+use Rattle.schedule.specs.Line.{onNumber, lineAt, lineOf, Holdable, Small}
 use Rattle.schedule.specs.Header.{headerAt, headerOf, countAt, valuesWord, warmupWord, measuredWord}
 use Rattle.schedule.specs.Values.{valueAt, valueLine}
-use Rattle.schedule.specs.Schedule.{Schedule, sectionOf, fileOf, Fits, Reading, faulty, sound, faultAt, Part, noPart, part, onPart, partAt, measuredFrom, warmupFrom, valuesFrom, readFile}
-use Rattle.schedule.specs.Files.{Small, Size, atValues, atValue, atWarmup, atWarmupStep, atMeasured, atMeasuredStep, atEnd, bytesBefore, ValuesKept, WarmupKept}
+use Rattle.schedule.specs.Schedule.{Schedule, sectionOf, fileOf, Fits, Reading, faulty, sound, faultAt, Part, noPart, part, onPart, partAt, measuredFrom, warmupFrom, valuesFrom, readFile, Size}
+use Rattle.schedule.specs.Files.{atValues, atValue, atWarmup, atWarmupStep, atMeasured, atMeasuredStep, atEnd, bytesBefore, ValuesKept, WarmupKept}
 use Rattle.schedule.specs.Files.{lineFeeds, FirstFault}
 use Rattle.schedule.specs.declared.fault.Fault.{Fault}
 use Rattle.schedule.proofs.RoundTrip.Found.{line-read}
@@ -160,8 +160,7 @@ module _ (s : List ℕ) (short : length s ≤ longest) where
           let few = p .few in (
             same,
             record {
-              some = v .0 .0;
-              few = v .0 .1;
+              size = v .0;
               small = v .1;
               warmup = w .holds;
               measured = p .holds;
@@ -217,7 +216,7 @@ module _ (s : List ℕ) (short : length s ≤ longest) where
   values-lines n a e h (brokenAt i from p) f =
       values-row s (faultAt 9 (2 + i) from p)
       (row-breaks s 0 [] valuesWord start 1 first-line (valueAt s) Small valueLine (value-read s) Size value-feeds values-word (value-breaks s) n a i from p e h f)
-  values-lines n a e h (items vs m) f = let o = opened s n a vs m e h f in warmup-sound vs m ((o .some, o .few), o .small) (o .stands)
+  values-lines n a e h (items vs m) f = let o = opened s n a vs m e h f in warmup-sound vs m (o .size, o .small) (o .stands)
 
   values-limit : (n a : ℕ) → headerAt s 0 valuesWord ≡ Value n a → (x : Bool) → among greatestSize n ≡ x
       → FileSound s (pick x (onItems (linesAt (valueAt s) n 0 a) (λ i from p. faulty (faultAt 9 (2 + i) from p)) (warmupFrom s))

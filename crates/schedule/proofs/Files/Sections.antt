@@ -9,10 +9,10 @@ use Rattle.text.specs.Stands.{Stands}
 use Rattle.text.specs.declared.number.Number.the-variants.{Value}
 use Rattle.text.proofs.StandsLaws.{stands-join, stands-high}
 use Rattle.schedule.specs.Lines.{Every, Item, broken, item, brokenAt, linesAt, linesOf}
-use Rattle.schedule.specs.Line.{spaceByte}
+use Rattle.schedule.specs.Line.{spaceByte, Small}
 use Rattle.schedule.specs.Header.{headerAt, headerOf, countAt}
 use Rattle.schedule.specs.Schedule.{faultAt}
-use Rattle.schedule.specs.Files.{Small, Spelling, BreaksForm, WrongCount, lineFeeds}
+use Rattle.schedule.specs.Files.{Spelling, BreaksForm, WrongCount, lineFeeds}
 use Rattle.schedule.specs.declared.fault.Fault.{Fault}
 use Rattle.schedule.proofs.Reading.InARow.{lines-ahead}
 use Rattle.schedule.proofs.RoundTrip.Header.{header-read}

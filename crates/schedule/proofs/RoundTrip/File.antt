@@ -15,10 +15,10 @@ use Rattle.schedule.specs.Limits.{longest, mostSteps}
 use Rattle.text.specs.Number.{pick, most}
 use Rattle.text.specs.Stands.{Stands}
 use Rattle.schedule.specs.Lines.{Item, item, Items, brokenAt, items, onItems, linesAt, linesOf}
-use Rattle.schedule.specs.Line.{onNumber, lineAt, lineOf, Holdable}
+use Rattle.schedule.specs.Line.{onNumber, lineAt, lineOf, Holdable, Small}
 use Rattle.schedule.specs.Header.{headerAt, headerOf, countAt, valuesWord, warmupWord, measuredWord}
 use Rattle.schedule.specs.Values.{valueAt, valueLine}
-use Rattle.schedule.specs.Schedule.{Schedule, sectionOf, fileOf, Fits, faulty, sound, faultAt, tooLong, Part, noPart, part, partAt, measuredFrom, warmupFrom, valuesFrom, readFile}
+use Rattle.schedule.specs.Schedule.{Schedule, sectionOf, fileOf, Fits, faulty, sound, faultAt, tooLong, Part, noPart, part, partAt, measuredFrom, warmupFrom, valuesFrom, readFile, Size}
 use Rattle.schedule.specs.Lines.{Every}
 use Rattle.schedule.specs.declared.fault.Fault.{Fault}
 use Rattle.text.specs.declared.number.Number.{Number}
@@ -153,13 +153,13 @@ file-spelled h f =
     let c : ℕ = b + length second in
     let opening : Stands s 0 b first = stands-first s 0 (length s) first (second ++ third) whole in
     let rest : Stands s b (length s) (second ++ third) = stands-rest s 0 (length s) first (second ++ third) whole in
-    let low = f .some in
-    let high = f .few in
+    let low = f .size .0 in
+    let high = f .size .1 in
     let steps = f .steps in
     read-got s (f .short)
     ∙ values-got s (h .values) n a b (header-spelled s 0 valuesWord a n (omega arith) (stands-first s 0 b (headerOf valuesWord n) (linesOf valueLine (h .values)) opening))
     (among-in greatestSize n low high)
-    (lines-spelled s (valueAt s) valueLine (λ v. v ≤ most) (value-spelled s) (h .values) n 0 a b refl (f .small)
+    (lines-spelled s (valueAt s) valueLine Small (value-spelled s) (h .values) n 0 a b refl (f .small)
     (stands-rest s 0 b (headerOf valuesWord n) (linesOf valueLine (h .values)) opening))
     ∙ warmup-got s (h .values) b c (h .warmup)
     (part-spelled s b warmupWord (n + 2) mostSteps (h .warmup) c (omega arith) (omega arith) (f .warmup) (stands-first s b (length s) second third rest))
@@ -171,17 +171,15 @@ file-spelled h f =
 
 -- an accepted opening: its values stand up to a place
 pub record Opened (s vs : List ℕ) (at : ℕ) : Type 0 where
-  pub some : 1 ≤ length vs
-  pub few : length vs ≤ greatestSize
-  pub small : Every (λ v. v ≤ most) vs
+  pub size : Size (length vs)
+  pub small : Every Small vs
   pub stands : Stands s 0 at (sectionOf valuesWord valueLine vs)
 
-pub opened : (s : List ℕ) (n a : ℕ) (vs : List ℕ) (m : ℕ) → headerAt s 0 valuesWord ≡ Value n a → (1 ≤ n) × (n ≤ greatestSize) → linesAt (valueAt s) n 0 a ≡ items vs m → Opened s vs m
+pub opened : (s : List ℕ) (n a : ℕ) (vs : List ℕ) (m : ℕ) → headerAt s 0 valuesWord ≡ Value n a → Size n → linesAt (valueAt s) n 0 a ≡ items vs m → Opened s vs m
 opened s n a vs m e h f =
-    let r = section-read s 0 valuesWord (valueAt s) (λ v. v ≤ most) valueLine (value-read s) n a m vs e f in
+    let r = section-read s 0 valuesWord (valueAt s) Small valueLine (value-read s) n a m vs e f in
     record {
-      some = subst (λ (k : ℕ). 1 ≤ k) (sym (r .0)) (h .0);
-      few = subst (λ (k : ℕ). k ≤ greatestSize) (sym (r .0)) (h .1);
+      size = subst Size (sym (r .0)) h;
       small = r .1;
       stands = r .2;
     }

@@ -15,8 +15,7 @@ use Rattle.text.specs.Stands.{Stands}
 use Rattle.text.specs.declared.number.Number.{Number}
 use Rattle.text.specs.declared.number.Number.the-variants.{Bad, Value}
 use Rattle.schedule.specs.Lines.{Every, Item, broken, item}
-use Rattle.schedule.specs.Line.{ending, spaced, lineOf, Holdable, numbersAfter, mayCut, stepOf, onNumber, onEnd, spacedAt, nextNumber, endAt, endedAt, afterLetter, lineAt}
-use Rattle.schedule.specs.Files.{Small}
+use Rattle.schedule.specs.Line.{ending, spaced, lineOf, Holdable, numbersAfter, mayCut, stepOf, onNumber, onEnd, spacedAt, nextNumber, endAt, endedAt, afterLetter, lineAt, Small}
 use Rattle.schedule.specs.declared.line.End.{End}
 use Rattle.schedule.specs.declared.line.End.the-variants.{NoEnd, Ends}
 use Rattle.text.proofs.StandsLaws.{stands-none, stands-join, stands-byte, stands-cons}

@@ -9,7 +9,7 @@ use lib.ListN.{length, getD}
 use borrow.Author.Tests.{lt-ltb, eq-eqb, ltb-true, eqb-true}
 use Rattle.text.specs.Number.{pick, most}
 use Rattle.text.specs.Stands.{Stands}
-use Rattle.schedule.specs.Line.{spaced, ending, spacedAt}
+use Rattle.schedule.specs.Line.{spaced, ending, spacedAt, Small}
 use Rattle.schedule.specs.Header.{headerOf, onWord, wordAt, aloneAt, headerAt}
 use Rattle.text.specs.declared.number.Number.{Number}
 use Rattle.text.specs.declared.number.Number.the-variants.{Bad, Value}
@@ -17,7 +17,6 @@ use Rattle.schedule.specs.declared.header.Word.{Word}
 use Rattle.schedule.specs.declared.header.Word.the-variants.{Missing, Past}
 use Rattle.schedule.proofs.Reading.Cases.{closed-is, closed-read}
 use Rattle.text.proofs.StandsLaws.{stands-none, stands-join, stands-first, stands-rest, stands-byte, stands-tail, stands-here, stands-within, byte-stands}
-use Rattle.schedule.specs.Files.{Small}
 use Rattle.schedule.proofs.RoundTrip.StepLine.{quiet-byte, spaced-spelled}
 use Rattle.schedule.proofs.RoundTrip.Found.{head-stands, Form, spaced-form}
 

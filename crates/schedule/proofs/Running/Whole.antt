@@ -182,12 +182,12 @@ module _ (s : List ℕ) (n : ℕ) (vs : List ℕ) (p : Places) (h : FormGood s n
   fits = file-read s schedule (h .is) .1
 
   begun-is : begins schedule l d ≡ stateWith g l₁ d₁
-  begun-is = begin-is (take n vs) l d (fits .some) (fits .few) g l₁ d₁ x e
+  begun-is = begin-is (take n vs) l d (fits .size .0) (fits .size .1) g l₁ d₁ x e
 
   pub sound-ready : (ltb (length l₁) storeLength || ltb (length d₁) storeLength) ≡ false → BothReady s p g l₁ d₁
   sound-ready k =
       let long = not-short (length l₁) (length d₁) k in
-      let t = begin-steady (take n vs) l d (fits .some) (fits .few) g l₁ d₁ x e (long .0) (long .1) in
+      let t = begin-steady (take n vs) l d (fits .size .0) (fits .size .1) g l₁ d₁ x e (long .0) (long .1) in
       record {
         ready = t .ready;
         sized = t .sized;

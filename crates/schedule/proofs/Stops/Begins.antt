@@ -11,10 +11,9 @@ use Rattle.text.specs.Number.{pick, numberAt}
 use Rattle.text.specs.declared.number.Number.{Number}
 use Rattle.text.specs.declared.number.Number.the-variants.{Bad, Value}
 use Rattle.schedule.specs.Lines.{broken, item}
-use Rattle.schedule.specs.Line.{ending, spaced, onNumber, closed, spacedAt}
+use Rattle.schedule.specs.Line.{ending, spaced, onNumber, closed, spacedAt, Small}
 use Rattle.schedule.specs.Header.{headerOf, wordAt, onWord, aloneAt, headerAt}
 use Rattle.schedule.specs.Values.{valueLine, valueAt}
-use Rattle.schedule.specs.Files.{Small}
 use Rattle.schedule.specs.declared.header.Word.{Word}
 use Rattle.schedule.specs.declared.header.Word.the-variants.{Missing, Past}
 use Rattle.text.proofs.StandsLaws.{stands-none, stands-here}

@@ -9,10 +9,10 @@ use Rattle.text.specs.Stands.{Stands}
 use Rattle.text.specs.declared.number.Number.{Number}
 use Rattle.text.specs.declared.number.Number.the-variants.{Bad, Value}
 use Rattle.schedule.specs.Lines.{Item, broken, item}
-use Rattle.schedule.specs.Line.{lineOf, Holdable, lineAt}
+use Rattle.schedule.specs.Line.{lineOf, Holdable, lineAt, Small}
 use Rattle.schedule.specs.Header.{headerOf, headerAt}
 use Rattle.schedule.specs.Values.{valueLine, valueAt}
-use Rattle.schedule.specs.Files.{Small, Spelling, BreaksForm}
+use Rattle.schedule.specs.Files.{Spelling, BreaksForm}
 use Rattle.text.proofs.StandsLaws.{stands-after}
 use Rattle.text.proofs.StopLaws.{Same}
 use Rattle.schedule.proofs.RoundTrip.StepLine.{line-spelled}
