@@ -4,7 +4,7 @@ ghost use Rattle.std.specs.Prelude.{◌≡◌, get_or, drop};
 ghost use Rattle.text.specs.Number.{is_digit, number_at, scan};
 
 // A number and the place after it; or no number, and the place of the first byte that none has there.
-#[derive(Drop)]
+#[derive(Clone, Copy)]
 pub enum Number {
     Bad(usize),
     Value(u32, usize),
