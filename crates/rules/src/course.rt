@@ -19,7 +19,7 @@ use crate::store::Store;
 
 // The way of a step: idle, refused with a number, or taken by a process with its next record and messages, and with what lifts its depth:
 // one more than the depth of the message that it hears, and 0 where it hears none.
-#[derive(Drop)]
+#[derive(Clone, Copy)]
 pub enum Way {
     Idles,
     Refuses(u8),
@@ -28,7 +28,7 @@ pub enum Way {
 
 // Where a step leads: refused by a number of its own, or the process that takes it, the place of its message (0 where it delivers none),
 // whether it delivers a message, and whether it recovers a process.
-#[derive(Drop)]
+#[derive(Clone, Copy)]
 pub enum Address {
     Misses(u8),
     At {

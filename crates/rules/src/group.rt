@@ -20,7 +20,7 @@ pub type Flags = [bool; 3 * Group::GREATEST];
 
 // n processes; the record of process i stands at i - 1 of each column of 16. In `words` the columns are first values, estimates' values and decisions;
 // in `halves` estimates heard, suspicions heard and depths; in `bytes` rounds, phases, estimates' proposers and numbers of recoveries; in `flags` marks, whether decided, and whether up.
-#[derive(Drop)]
+#[derive(Clone, Copy)]
 pub struct Group {
     pub n: u8,
     pub words: Words,
@@ -30,7 +30,7 @@ pub struct Group {
 }
 
 // The group after a start or a step, and the answer.
-#[derive(Drop)]
+#[derive(Clone, Copy)]
 pub struct Taken {
     pub group: Group,
     pub answer: Answer,

@@ -11,7 +11,7 @@ ghost use Rattle.rules.specs.Start as starts;
 use crate::tally;
 
 // A message that a process hands over, or nothing. It is for all; its sender is the process.
-#[derive(Drop)]
+#[derive(Clone, Copy)]
 pub enum Message {
     Nothing,
     E { round: u8, proposer: u8, value: u32 },
@@ -22,7 +22,7 @@ pub enum Message {
 
 // A process. `decision` is one where `decided` is true, and none otherwise. All but `up` and the tallies is the stored record.
 // The two that no message changes stand first, the others by width: of the orders tried this one is cheapest to take out and to put back.
-#[derive(Drop)]
+#[derive(Clone, Copy)]
 pub struct Process {
     pub first: u32,
     pub recoveries: u8,
@@ -39,7 +39,7 @@ pub struct Process {
 }
 
 // The next record, and the messages that it hands over, at most two.
-#[derive(Drop)]
+#[derive(Clone, Copy)]
 pub struct Next {
     pub process: Process,
     pub first: Message,

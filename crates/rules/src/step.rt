@@ -1,7 +1,7 @@
 // A step of a schedule, and what is answered to it. Knows no process and no group.
 
 // A step of a schedule. Its numbers are any numbers of 32 bits. A delivery and a suspicion may be cut.
-#[derive(Drop)]
+#[derive(Clone, Copy)]
 pub enum Step {
     DeliverE {
         to: u32,
@@ -43,7 +43,7 @@ pub enum Step {
 
 // What a step answers: idle; applied, with how many messages were handed over, how many of them again, their entry sent before, and whether the process decided;
 // or refused, with the number.
-#[derive(Drop)]
+#[derive(Clone, Copy)]
 pub enum Answer {
     Idle,
     Applied { sent: u8, again: u8, decided: bool },

@@ -10,21 +10,21 @@ use crate::group::Group;
 use crate::process::{Message, Process};
 
 // Where a message stands in the store and with which entry; nowhere where there is none.
-#[derive(Drop)]
+#[derive(Clone, Copy)]
 pub enum Spot {
     Nowhere,
     At(usize, u64),
 }
 
 // How many messages were handed over, and how many of them again: their entry was sent before.
-#[derive(Drop)]
+#[derive(Clone, Copy)]
 pub struct Traffic {
     pub sent: u8,
     pub again: u8,
 }
 
 // The store itself is a slice of 64-bit entries that the caller lends, and the depths one of 16-bit numbers; this type has their limits.
-#[derive(Drop)]
+#[derive(Clone, Copy)]
 pub struct Store {}
 
 impl Store {

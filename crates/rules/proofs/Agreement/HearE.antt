@@ -9,7 +9,6 @@ use lib.Dec.{eqb}
 use borrow.Author.Tests.{eqb-true, eqb-false, not-false}
 use Rattle.rules.specs.declared.process.Process.{Process}
 use Rattle.rules.specs.declared.process.Next.{Next}
-use Rattle.rules.specs.declared.process.Message.TheVariants.{E}
 use Rattle.rules.specs.Limits.{coordinator, majority}
 use Rattle.rules.specs.Tally.{joined, meets, count}
 use Rattle.rules.specs.Store.{entry_of, proposer_of, value_of}

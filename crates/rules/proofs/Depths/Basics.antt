@@ -16,7 +16,7 @@ use Rattle.rules.specs.declared.process.Next.{Next}
 use Rattle.rules.specs.declared.step.Step.{Step}
 use Rattle.rules.specs.Layout.{forgetting}
 use Rattle.rules.specs.Depths.{delivered_depth, raises, raised, depth_after, dated, dated_both}
-use Rattle.rules.specs.Refusals.{row, short, miscounted, strange, refusal, start_refusal}
+use Rattle.rules.specs.Refusals.{row, short, miscounted, strange, start_refusal}
 use Rattle.rules.specs.Answers.{Said}
 use Rattle.rules.specs.Start.{started_to, first_message, opened, opened_depths, unless_refused_start, started}
 use Rattle.rules.specs.Step.{Course, Idles, Refuses, Takes, hand_overs, course, settled, stepped}
@@ -41,7 +41,7 @@ use Rattle.rules.proofs.Laws.Sound.{Whole, Sound, sound-facts, Named, Fine, name
 use Rattle.rules.proofs.Laws.Passing.{facts-deep, course-takes, dating, dated-length, dated-other}
 use Rattle.rules.proofs.Laws.Column.{depth-put, depth-kept, sized-deep, depth-with, process-forgets, forget-started, depth-started}
 use Rattle.rules.proofs.Laws.Course.{taker-low, place-low}
-use Rattle.rules.proofs.Runs.Basics.{Basic, basic, basic-start, basic-next, start_is}
+use Rattle.rules.proofs.Runs.Basics.{Basic, basic-start, basic-next, start_is}
 use Rattle.rules.proofs.Runs.Sound.{never-two-nor-eleven}
 
 -- ---- one message that is dated

@@ -148,6 +148,7 @@ in_some (later a) = tt
 -- in a list of one
 pub in_one : {h k : Handed} → In h (k ∷ []) → h ≡ k
 in_one here = refl
+in_one {h = h} {k = k} (later x) = elim x [ ]
 
 -- in two lists: in the one or in the other
 either : {h k : Handed} {hs ks : List Handed} → In h hs ⊎ In h ks → In h (k ∷ hs) ⊎ In h ks
