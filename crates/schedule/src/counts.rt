@@ -7,7 +7,7 @@ ghost use Rattle.schedule.specs.Private as private;
 use rules::step::Answer;
 
 // How many steps a section has; how many of them were applied, idle and refused; how many messages were handed over, and how many of them again; how many processes decided.
-#[derive(Drop)]
+#[derive(Clone, Copy)]
 pub struct Counts {
     pub steps: u32,
     pub applied: u32,

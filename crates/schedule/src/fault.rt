@@ -6,7 +6,7 @@ ghost use Rattle.schedule.specs.Schedule.{fault_at, no_fault};
 
 // Where a file is faulty: the refusal's number, the line and the column, both counted from 1; a file that is too long has line 0 and column 0.
 // Number 0 says that the file has no fault.
-#[derive(Drop)]
+#[derive(Clone, Copy)]
 pub struct Fault {
     pub number: u8,
     pub line: u32,

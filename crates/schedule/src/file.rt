@@ -14,7 +14,7 @@ use rules::group::Group;
 use text::number::Number;
 
 // The limits of a file.
-#[derive(Drop)]
+#[derive(Clone, Copy)]
 pub struct File {}
 
 impl File {
@@ -38,7 +38,7 @@ impl File {
 }
 
 // The values of a file and the place of its WARMUP line, or its first fault up to there.
-#[derive(Drop)]
+#[derive(Clone, Copy)]
 pub(crate) struct Opening {
     pub fault: Fault,
     pub n: u32,
@@ -47,7 +47,7 @@ pub(crate) struct Opening {
 }
 
 // How many steps the two sections have, and where the first of each stands.
-#[derive(Drop)]
+#[derive(Clone, Copy)]
 pub(crate) struct Places {
     pub warmup: u32,
     pub start: usize,
@@ -55,14 +55,14 @@ pub(crate) struct Places {
     pub middle: usize,
 }
 
-#[derive(Drop)]
+#[derive(Clone, Copy)]
 pub(crate) enum Sections {
     Bad(Fault),
     Good(Places),
 }
 
 // A sound file's values, and where its steps stand; or the file's fault.
-#[derive(Drop)]
+#[derive(Clone, Copy)]
 pub(crate) struct Form {
     pub fault: Fault,
     pub n: u32,

@@ -11,7 +11,7 @@ use crate::number::closed;
 use text::number::Number;
 
 // The place after a word that stands at a place, or the place of the first byte that is not the word's.
-#[derive(Drop)]
+#[derive(Clone, Copy)]
 pub(crate) enum Word {
     Missing(usize),
     Past(usize),

@@ -1,5 +1,7 @@
 // Schedule files, and the run over them.
 // The file is lent and read in place; no step list is kept. Of the rules this crate knows what their contracts state, and nothing else.
+#![tactic(auto)]
+
 pub mod counts;
 pub mod fault;
 pub mod file;

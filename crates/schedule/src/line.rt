@@ -101,7 +101,7 @@ pub(crate) fn next_number(s: &[u8], at: usize, wanted: bool) -> Number
 }
 
 // A line's end, which is LF or, where the step may be cut, ` X` and LF: whether it is a cut and the place after it, or where it breaks the form.
-#[derive(Drop)]
+#[derive(Clone, Copy)]
 pub(crate) enum End {
     NoEnd(usize),
     Ends(bool, usize),
@@ -130,7 +130,7 @@ pub(crate) fn end_at(s: &[u8], at: usize, may: bool) -> End
 }
 
 // A step and the place after its line, or the place where the line breaks the form.
-#[derive(Drop)]
+#[derive(Clone, Copy)]
 pub enum Line {
     Bad(usize),
     Good(Step, usize),
@@ -255,14 +255,14 @@ pub(crate) fn line_end(s: &[u8], at: usize) -> usize
 // ---- a line that is known to keep the form: nothing is tested again
 
 // A number and the place after it.
-#[derive(Drop)]
+#[derive(Clone, Copy)]
 pub(crate) struct Read {
     pub value: u32,
     pub next: usize,
 }
 
 // A step and the place after its line.
-#[derive(Drop)]
+#[derive(Clone, Copy)]
 pub(crate) struct StepRead {
     pub step: Step,
     pub next: usize,

@@ -11,7 +11,7 @@ use crate::section::{Lines, check_steps};
 use text::number::Number;
 
 // The fault; or the count, the place of the first step line and the place after the last.
-#[derive(Drop)]
+#[derive(Clone, Copy)]
 pub(crate) enum Part {
     Bad(Fault),
     Good(u32, usize, usize),

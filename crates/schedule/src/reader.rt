@@ -6,7 +6,7 @@ ghost use Rattle.schedule.specs.Private.{Ahead, place_after, KnownLine, line_rea
 use crate::line;
 use crate::line::StepRead;
 
-#[derive(Drop)]
+#[derive(Clone, Copy)]
 pub(crate) struct Reader<'a> {
     pub file: &'a [u8],
     pub at: usize,

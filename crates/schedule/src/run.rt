@@ -14,7 +14,7 @@ use rules::store::Store;
 use rules::take::step_sound;
 
 // What a file's run gives: its fault, and then no step was run; or no fault, the counts of its two sections, and the group at the end.
-#[derive(Drop)]
+#[derive(Clone, Copy)]
 pub struct Ran {
     pub fault: Fault,
     pub warmup: Counts,

@@ -8,7 +8,7 @@ ghost use Rattle.schedule.specs.Private.{LastLf, lines_end};
 use crate::reader;
 
 // The place after the last of some lines, or which of them, counted from 0, is the first faulty one, and the place where it begins.
-#[derive(Drop)]
+#[derive(Clone, Copy)]
 pub(crate) enum Lines {
     Fault(u32, usize),
     Good(usize),

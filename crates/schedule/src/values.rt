@@ -11,7 +11,7 @@ use rules::group::Group;
 use text::number::{Number, decimal};
 
 // The values of the first lines, how many lines were sound, the place after the last of them, and the place where reading stopped: in the line after those, or behind the last.
-#[derive(Drop)]
+#[derive(Clone, Copy)]
 pub(crate) struct Values {
     pub values: [u32; Group::GREATEST],
     pub read: usize,

@@ -1,0 +1,28 @@
+use native.Mathlib.Omega.{arith}
+use Rattle.schedule.proofs.Reading.Ahead.{ahead-last}
+use Rattle.schedule.proofs.Reading.Whole.{checking-none, checking-late, checking-broken, checking-on, checking-done}
+use Rattle.schedule.proofs.section.check_steps.Goals as goal
+
+pub loop-i-init : goal.loop-i-init
+loop-i-init c = checking-none _ _ _
+
+pub returns-then-place-end : goal.returns-then-place-end
+returns-then-place-end c = checking-late c.loop-i.invariant c.requires c.loop-i-test.true (omega (arith, c.if-place-end.true))
+
+pub line_end_at-next-requires : goal.line_end_at-next-requires
+line_end_at-next-requires c = ahead-last c.requires c.if-place-end.false
+
+pub returns-then-next-eq0 : goal.returns-then-next-eq0
+returns-then-next-eq0 c = checking-broken c.loop-i.invariant c.loop-i-test.true c.line_end_at-next.ensures c.if-next-eq0.true
+
+pub overflow_add-i : goal.overflow_add-i
+overflow_add-i c = omega arith
+
+pub loop-i-smaller : goal.loop-i-smaller
+loop-i-smaller c = omega arith
+
+pub loop-i-preserved : goal.loop-i-preserved
+loop-i-preserved c = checking-on c.loop-i.invariant c.loop-i-test.true c.line_end_at-next.ensures c.if-next-eq0.false
+
+pub returns : goal.returns
+returns c = checking-done c.loop-i.invariant c.loop-i-test.false
