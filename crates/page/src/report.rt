@@ -16,7 +16,7 @@ use schedule::run::{Ran, run};
 use text::put::put_bytes;
 
 // The report's limit.
-#[derive(Drop)]
+#[derive(Clone, Copy)]
 pub struct Report {}
 
 impl Report {
