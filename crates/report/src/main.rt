@@ -1,15 +1,24 @@
 // The report program: reads a schedule file on standard input, runs it over a store of its own and the depths of its messages, and writes its report on standard output, nothing else.
 // It holds the arrays and lends them; what a report says is in the crate page. One byte more than a file may have is read, so that too long a file shows.
-use libc::{STDIN_FILENO, STDOUT_FILENO};
+#![tactic(auto)]
+
+use input::read_full;
 use page::report::{Report, write_report};
 use rules::store::Store;
+use schedule::file::File;
 
-fn main() {
-    let mut file = io::large_buffer();
+// A write that fails is not seen: who reads standard output sees that there is none.
+fn say(rt: &impl Print, text: &[u8]) {
+    let _ = rt.write_all(text);
+}
+
+fn main(rt: HostRuntime) {
+    let mut file = [0u8; File::LONGEST + 1];
     let mut store = [0u64; Store::LENGTH];
     let mut depths = [0u16; Store::LENGTH];
     let mut out = [0u8; Report::LONGEST];
-    let n = io::read_full(STDIN_FILENO, &mut file);
+    let mut stdin = rt.stdin();
+    let n = read_full(&mut stdin, &mut file);
     let k = write_report(&file[..n], &mut store, &mut depths, &mut out);
-    io::write_all(STDOUT_FILENO, &out[..k]);
+    say(&rt, &out[..k]);
 }

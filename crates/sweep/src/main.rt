@@ -1,78 +1,105 @@
 // The sweep program: takes names of schedule files as arguments and writes, for each in turn, a line with its name and then its report.
 // Of a file that cannot be read it says so in a line, and goes on with the rest. One store and the depths of its messages are lent to every report: each start clears them.
-use libc::STDOUT_FILENO;
+#![tactic(auto)]
+
+use input::read_full;
 use page::report::{Report, write_report};
 use rules::store::Store;
 use schedule::file::File;
+use std::env::FillError;
+use std::fs;
+use std::io::Read;
+use std::rt::{Env, Files};
 
-fn say(text: &[u8]) {
-    io::write_all(STDOUT_FILENO, text);
+// A write that fails is not seen: who reads standard output sees that there is none.
+fn say(rt: &impl Print, text: &[u8]) {
+    let _ = rt.write_all(text);
 }
 
-fn say_unread(name: &[u8]) {
-    say(name);
-    say(b": cannot be read\n");
+fn say_unread(rt: &impl Print, name: &[u8]) {
+    say(rt, name);
+    say(rt, b": cannot be read\n");
 }
 
-fn say_report(file: &[u8], store: &mut [u64; Store::LENGTH], depths: &mut [u16; Store::LENGTH]) {
-    let mut out = [0u8; Report::LONGEST];
-    let k = write_report(file, store, depths, &mut out);
-    say(&out[..k]);
-}
-
-// Whether an open file has been read to its end: a read answers 0 there, and nowhere else.
-fn at_end(fd: i32) -> bool {
-    let mut next = [0u8; 1];
-    libc::read(fd, &mut next) == 0
-}
-
-// One byte more than a schedule file may have is read, so that too long a file shows. Any other file must be read to its end.
-fn sweep_open(
-    name: &[u8],
-    fd: i32,
+fn say_report(
+    rt: &impl Print,
+    file: &[u8],
     store: &mut [u64; Store::LENGTH],
     depths: &mut [u16; Store::LENGTH],
 ) {
-    let mut file = io::large_buffer();
-    let n = io::read_full(fd, &mut file);
-    if n <= File::LONGEST && !at_end(fd) {
-        say_unread(name);
-        return;
-    }
-    say(name);
-    say(b"\n");
-    say_report(&file[..n], store, depths);
+    let mut out = [0u8; Report::LONGEST];
+    let k = write_report(file, store, depths, &mut out);
+    say(rt, &out[..k]);
 }
 
-fn sweep_name(name: &[u8], store: &mut [u64; Store::LENGTH], depths: &mut [u16; Store::LENGTH]) {
-    let fd = os::open_read(name);
-    if fd < 0 {
-        say_unread(name);
-        return;
+// Whether an open file has been read to its end: a read answers 0 there, and nowhere else.
+fn at_end<R: Read>(from: &mut R) -> bool {
+    let mut next = [0u8; 1];
+    match from.read(&mut next) {
+        Ok(n) => n == 0,
+        Err(_) => false,
     }
-    sweep_open(name, fd, store, depths);
-    libc::close(fd);
 }
 
-// Of a name that is longer than any file's, the first 4,096 bytes are written.
-fn sweep_argument(i: usize, store: &mut [u64; Store::LENGTH], depths: &mut [u16; Store::LENGTH]) {
-    let mut name = io::buffer();
-    let length = os::arg(i, &mut name);
-    if os::errno() == libc::ENAMETOOLONG {
-        say_unread(&name);
+// One byte more than a schedule file may have is read, so that too long a file shows. Any other file must be read to its end.
+fn sweep_open<R: Read>(
+    rt: &impl Print,
+    name: &[u8],
+    from: &mut R,
+    store: &mut [u64; Store::LENGTH],
+    depths: &mut [u16; Store::LENGTH],
+) {
+    let mut file = [0u8; File::LONGEST + 1];
+    let n = read_full(from, &mut file);
+    if n <= File::LONGEST && !at_end(from) {
+        say_unread(rt, name);
         return;
     }
-    sweep_name(&name[..length], store, depths);
+    say(rt, name);
+    say(rt, b"\n");
+    say_report(rt, &file[..n], store, depths);
+}
+
+// A name that is not UTF-8 names no file here: a path is text.
+fn sweep_name(
+    rt: &(impl Print + Files),
+    name: &[u8],
+    store: &mut [u64; Store::LENGTH],
+    depths: &mut [u16; Store::LENGTH],
+) {
+    let Ok(path) = str::from_utf8(name) else {
+        say_unread(rt, name);
+        return;
+    };
+    match fs::open(rt, path) {
+        Ok(mut file) => sweep_open(rt, name, &mut file, store, depths),
+        Err(_) => say_unread(rt, name),
+    }
+}
+
+// Sweeps argument i, and answers whether there is one. Of a name that is longer than any file's, the first 4,096 bytes are written.
+fn sweep_argument(
+    rt: &(impl Print + Files + Env),
+    i: usize,
+    store: &mut [u64; Store::LENGTH],
+    depths: &mut [u16; Store::LENGTH],
+) -> bool {
+    let mut name = [0u8; 4096];
+    match rt.arg(i, &mut name) {
+        Ok(length) => sweep_name(rt, &name[..length], store, depths),
+        Err(FillError::TooLong) => say_unread(rt, &name),
+        Err(FillError::NotPresent) => return false,
+    }
+    true
 }
 
 // Argument 0 is the program's own name.
-fn main() {
+fn main(rt: HostRuntime) {
     let mut store = [0u64; Store::LENGTH];
     let mut depths = [0u16; Store::LENGTH];
-    let count = os::arg_count();
-    let mut i = 1;
-    while i < count {
-        sweep_argument(i, &mut store, &mut depths);
-        i += 1;
+    for i in 1..usize::MAX {
+        if !sweep_argument(&rt, i, &mut store, &mut depths) {
+            break;
+        }
     }
 }
