@@ -3,12 +3,13 @@
 # `model run` is the program itself, `model report`, `model sweep` and `model steps` are what one uses.
 # What each gives:
 #   closed, write-only or folder as standard input   taken as an empty file: BAD 9 1 1 (model: status 1)
-#   closed or full standard output, a file cut off   the program ends with status 0 and does not see it;
-#     by the size limit                              model says it on standard error and ends with 2
+#   closed or full standard output, a file cut off   the program says it on standard error and ends with 1;
+#     by the size limit                              model says it there too and ends with 2
 #   a pipe with one byte at a time, or in two halves the whole report, as from a file
 #   100 MB, input without end                        BAD 10 0 0 at once, without reading it all
 #   NUL bytes                                        BAD 9 with the line and the column
-#   sweep: missing, folder, no permission, no name   "NAME: cannot be read", and the next files are answered;
+#   sweep: missing, folder, no permission, no name,  "NAME: cannot be read", and the next files are answered;
+#     a name that is not UTF-8
 #                                                    model says why on standard error, and ends with 2
 #   BAD files                                        named with that line, and status 1; on a terminal model
 #                                                    shows the line too, with a mark under the column
@@ -267,6 +268,12 @@ try "$model" steps astray missing; said 'astray: is a link to nothing' 'missing:
 check "model steps, files that cannot be read, and why" 2 'astray: cannot be read
 missing: cannot be read
 no process decided'
+cp one $'b\377'
+try "$model" sweep $'b\377' one; said 'has a name that is not UTF-8'
+check "model sweep, a name that is not UTF-8" 2 $'b\377: cannot be read'"
+one
+$(sed -n '2,$p' <<< "$("$model" run sweep one)")"
+try "$model" report < $'b\377';                             check "model report, the same through standard input" 0 "$(sed -n '2,$p' <<< "$("$model" run sweep one)")"
 # The warm-up's decisions
 printf 'VALUES 1\n7\nWARMUP 1\nE 1 1 0\nMEASURED 0\n' > early
 try "$model" steps early one;                               check "model steps, a decision of the warm-up" 0 'early  process 1  value 7  depth 1
@@ -488,6 +495,7 @@ cat > "$kit/bin/rt" << 'END'
 #!/usr/bin/env bash
 kit=$(dirname "$(dirname "$(readlink -f "$0")")")
 [ "$1" != version ] || { cat "$kit/version"; exit; }
+[ "$*" = run ] || { echo "rt: no such command"; exit 2; }
 name=${PWD##*/}
 echo "./proofs/a/Answers.antt:1:1: note: something that looks like an error"
 echo "rt: chose --jobs 2 for below"

@@ -4,7 +4,7 @@
 port.py respells only names that today's library has too; this turns the others: a name that begins with a small
 letter and has a capital inside, as `storeLength`, becomes `store_length`, also as a part of a name with dashes, as in
 `handOver-length`. Rust's names have no such form, so sources change in their clauses, imports and comments alone.
-Must-fail edits and pages get the same spelling, and of the older language's forms those that stand in edits.
+Must-fail edits and pages get the same spelling of these names.
 
 Run once, at the top, after port.py.
 """

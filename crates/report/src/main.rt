@@ -6,13 +6,10 @@ use input::read_full;
 use page::report::{Report, write_report};
 use rules::store::Store;
 use schedule::file::File;
+use std::io;
 
-// A write that fails is not seen: who reads standard output sees that there is none.
-fn say(rt: &impl Print, text: &[u8]) {
-    let _ = rt.write_all(text);
-}
-
-fn main(rt: HostRuntime) {
+// A read that fails is the end of the input. A write that fails ends the program with an error.
+fn main(rt: HostRuntime) -> io::Result<()> {
     let mut file = [0u8; File::LONGEST + 1];
     let mut store = [0u64; Store::LENGTH];
     let mut depths = [0u16; Store::LENGTH];
@@ -20,5 +17,5 @@ fn main(rt: HostRuntime) {
     let mut stdin = rt.stdin();
     let n = read_full(&mut stdin, &mut file);
     let k = write_report(&file[..n], &mut store, &mut depths, &mut out);
-    say(&rt, &out[..k]);
+    rt.write_all(&out[..k])
 }

@@ -35,7 +35,7 @@ pub(crate) fn step<'a>(r: Reader<'a>) -> StepRead
     line::known_line(r.file, r.at)
 }
 
-// The two through a reader, with plain parameters, so that a caller needs no walk.
+// The two through a reader, with plain parameters, for the loops above.
 pub(crate) fn line_end_at(s: &[u8], at: usize) -> usize
     requires { Ahead s.now at }
     ensures { result ≡ place_after (line_at s.now at) }

@@ -7,18 +7,13 @@ use page::report::{Report, write_report};
 use rules::store::Store;
 use schedule::file::File;
 use std::env::FillError;
-use std::fs;
 use std::io::Read;
 use std::rt::{Env, Files};
+use std::{fs, io};
 
-// A write that fails is not seen: who reads standard output sees that there is none.
-fn say(rt: &impl Print, text: &[u8]) {
-    let _ = rt.write_all(text);
-}
-
-fn say_unread(rt: &impl Print, name: &[u8]) {
-    say(rt, name);
-    say(rt, b": cannot be read\n");
+fn say_unread(rt: &impl Print, name: &[u8]) -> io::Result<()> {
+    rt.write_all(name)?;
+    rt.write_all(b": cannot be read\n")
 }
 
 fn say_report(
@@ -26,10 +21,10 @@ fn say_report(
     file: &[u8],
     store: &mut [u64; Store::LENGTH],
     depths: &mut [u16; Store::LENGTH],
-) {
+) -> io::Result<()> {
     let mut out = [0u8; Report::LONGEST];
     let k = write_report(file, store, depths, &mut out);
-    say(rt, &out[..k]);
+    rt.write_all(&out[..k])
 }
 
 // Whether an open file has been read to its end: a read answers 0 there, and nowhere else.
@@ -48,16 +43,15 @@ fn sweep_open<R: Read>(
     from: &mut R,
     store: &mut [u64; Store::LENGTH],
     depths: &mut [u16; Store::LENGTH],
-) {
+) -> io::Result<()> {
     let mut file = [0u8; File::LONGEST + 1];
     let n = read_full(from, &mut file);
     if n <= File::LONGEST && !at_end(from) {
-        say_unread(rt, name);
-        return;
+        return say_unread(rt, name);
     }
-    say(rt, name);
-    say(rt, b"\n");
-    say_report(rt, &file[..n], store, depths);
+    rt.write_all(name)?;
+    rt.write_all(b"\n")?;
+    say_report(rt, &file[..n], store, depths)
 }
 
 // A name that is not UTF-8 names no file here: a path is text.
@@ -66,10 +60,9 @@ fn sweep_name(
     name: &[u8],
     store: &mut [u64; Store::LENGTH],
     depths: &mut [u16; Store::LENGTH],
-) {
+) -> io::Result<()> {
     let Ok(path) = str::from_utf8(name) else {
-        say_unread(rt, name);
-        return;
+        return say_unread(rt, name);
     };
     match fs::open(rt, path) {
         Ok(mut file) => sweep_open(rt, name, &mut file, store, depths),
@@ -83,23 +76,24 @@ fn sweep_argument(
     i: usize,
     store: &mut [u64; Store::LENGTH],
     depths: &mut [u16; Store::LENGTH],
-) -> bool {
+) -> io::Result<bool> {
     let mut name = [0u8; 4096];
     match rt.arg(i, &mut name) {
-        Ok(length) => sweep_name(rt, &name[..length], store, depths),
-        Err(FillError::TooLong) => say_unread(rt, &name),
-        Err(FillError::NotPresent) => return false,
+        Ok(length) => sweep_name(rt, &name[..length], store, depths)?,
+        Err(FillError::TooLong) => say_unread(rt, &name)?,
+        Err(FillError::NotPresent) => return Ok(false),
     }
-    true
+    Ok(true)
 }
 
-// Argument 0 is the program's own name.
-fn main(rt: HostRuntime) {
+// Argument 0 is the program's own name. A write that fails ends the program with an error.
+fn main(rt: HostRuntime) -> io::Result<()> {
     let mut store = [0u64; Store::LENGTH];
     let mut depths = [0u16; Store::LENGTH];
     for i in 1..usize::MAX {
-        if !sweep_argument(&rt, i, &mut store, &mut depths) {
+        if !sweep_argument(&rt, i, &mut store, &mut depths)? {
             break;
         }
     }
+    Ok(())
 }

@@ -2,7 +2,10 @@
 use Rattle.rules.proofs.Laws.Course.{short-outcome, shallow-outcome, damaged-outcome}
 use Rattle.rules.specs.Refusals.{short}
 use Rattle.rules.specs.Answers.{said}
+use Rattle.rules.specs.Limits.{store_length}
 use borrow.Author.Tests.{lt-ltb, le-ltb}
+use lib.ListN.{length}
+use native.Mathlib.Omega.{arith}
 use mathlib.Core.Path.{sym, ◌∙◌}
 use Rattle.rules.proofs.take.step_on.Goals as goal
 
@@ -12,7 +15,7 @@ returns-then-store-lt-LENGTH c = short-outcome _ _ _ _ (lt-ltb _ _ c.if-store-lt
 
 pub returns-then-depths-lt-LENGTH : goal.returns-then-depths-lt-LENGTH
 unfolding said short
-returns-then-depths-lt-LENGTH c = shallow-outcome _ _ _ _ (le-ltb _ _ c.if-store-lt-LENGTH.false) (lt-ltb _ _ c.if-depths-lt-LENGTH.true)
+returns-then-depths-lt-LENGTH c = shallow-outcome _ _ _ _ (le-ltb (length c.args.store.now) store_length (omega arith)) (lt-ltb _ _ c.if-depths-lt-LENGTH.true)
 
 pub returns-then-damaged : goal.returns-then-damaged
 unfolding said short
