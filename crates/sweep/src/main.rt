@@ -11,9 +11,14 @@ use std::io::Read;
 use std::rt::{Env, Files};
 use std::{fs, io};
 
+// A write that fails ends the program with an error.
+fn say(rt: &impl Print, text: &[u8]) -> io::Result<()> {
+    rt.write_all(text)
+}
+
 fn say_unread(rt: &impl Print, name: &[u8]) -> io::Result<()> {
-    rt.write_all(name)?;
-    rt.write_all(b": cannot be read\n")
+    say(rt, name)?;
+    say(rt, b": cannot be read\n")
 }
 
 fn say_report(
@@ -24,7 +29,7 @@ fn say_report(
 ) -> io::Result<()> {
     let mut out = [0u8; Report::LONGEST];
     let k = write_report(file, store, depths, &mut out);
-    rt.write_all(&out[..k])
+    say(rt, &out[..k])
 }
 
 // Whether an open file has been read to its end: a read answers 0 there, and nowhere else.
@@ -49,8 +54,8 @@ fn sweep_open<R: Read>(
     if n <= File::LONGEST && !at_end(from) {
         return say_unread(rt, name);
     }
-    rt.write_all(name)?;
-    rt.write_all(b"\n")?;
+    say(rt, name)?;
+    say(rt, b"\n")?;
     say_report(rt, &file[..n], store, depths)
 }
 
@@ -86,7 +91,7 @@ fn sweep_argument(
     Ok(true)
 }
 
-// Argument 0 is the program's own name. A write that fails ends the program with an error.
+// Argument 0 is the program's own name.
 fn main(rt: HostRuntime) -> io::Result<()> {
     let mut store = [0u64; Store::LENGTH];
     let mut depths = [0u16; Store::LENGTH];
