@@ -9,8 +9,7 @@
 #   100 MB, input without end                        BAD 10 0 0 at once, without reading it all
 #   NUL bytes                                        BAD 9 with the line and the column
 #   sweep: missing, folder, no permission, no name,  "NAME: cannot be read", and the next files are answered;
-#     a name that is not UTF-8
-#                                                    model says why on standard error, and ends with 2
+#     a name that is not UTF-8                       model says why on standard error, and ends with 2
 #   BAD files                                        named with that line, and status 1; on a terminal model
 #                                                    shows the line too, with a mark under the column
 #   a program that is missing, stale or truncated    built, which is said in a few lines; a stand-in for the
