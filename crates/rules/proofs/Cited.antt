@@ -8,7 +8,7 @@ pub use Rattle.rules.proofs.Laws.Sound.{Fine}
 pub use Rattle.rules.proofs.Laws.Whole.{deep-keeps, deep-step-size, deep-sized-step, deep-sound-step, deep-step-length, depths-step-length, Starting, deep-starting}
 -- the layout of a group: what is put in comes out, and all else stays
 pub use Rattle.rules.proofs.Laws.Group.{process-put, process-kept, with_size, started-process, started-size}
-pub use Rattle.rules.proofs.Laws.Column.{process-deep}
+pub use Rattle.rules.proofs.Laws.Group.{process-deep}
 -- counting, tests of 1..n, truth values
 pub use Rattle.rules.proofs.Laws.Count.{count-ext, count_none}
 pub use Rattle.rules.proofs.Laws.Row.{among-true, among_in}

@@ -4,10 +4,9 @@ pub mod Bool
 pub mod All
 pub mod Row
 pub mod Count
--- a tally, the layout of a group, the column of depths, the store, a record
+-- a tally, the places of a group, the store, a record
 pub mod Tally
 pub mod Group
-pub mod Column
 pub mod Store
 pub mod Process
 -- what keeps a group sound, what it means that the table passes a step, and a start and a step whole

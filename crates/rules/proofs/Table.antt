@@ -5,7 +5,7 @@ use mathlib.Core.Bool.{true}
 use lib.Count.{ones}
 use Rattle.rules.specs.Limits.{among}
 use Rattle.rules.specs.Tally.{holds, joined, meets, within}
-use Rattle.rules.specs.Layout.{process_at, with_process, depth_in, depth_at, with_depth, blank_group}
+use Rattle.rules.specs.Layout.{process_at, with_process, depth_at, with_depth, blank_group}
 use Rattle.rules.specs.Store.{place_of, entry_for, hand_over, one, repeats, cleared}
 use Rattle.rules.specs.Events.{takes, enters, joins_estimates, joins_suspicions, decides, second_phase, marks, paused, crashed, recovered, quiet}
 use Rattle.rules.specs.Events.{changed, jumps_if, jumps, relays_if, relays, decides_if, decides_at, goes_to_phase2, goes_to_phase2_if, to_phase2}
@@ -31,7 +31,7 @@ use Rattle.rules.specs.Table.{sections_above, section_again, two_at_once, table_
 pub table-holds : table_holds ≡ true
 unfolding ones
     holds joined meets within
-    process_at with_process depth_in depth_at with_depth blank_group
+    process_at with_process depth_at with_depth blank_group
     place_of entry_for hand_over one repeats cleared
     takes enters joins_estimates joins_suspicions decides second_phase marks paused crashed recovered quiet
     changed jumps_if jumps relays_if relays decides_if decides_at goes_to_phase2 goes_to_phase2_if to_phase2

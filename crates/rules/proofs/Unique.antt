@@ -6,30 +6,62 @@ use Prim.Native.Nat.{ℕ}
 use Rattle.rules.specs.declared.group.Group.{Group}
 use Rattle.rules.specs.declared.step.Step.{Step}
 use Rattle.rules.specs.declared.step.Answer.{Answer}
-use Rattle.rules.specs.declared.step.Answer.TheVariants.{Idle, Applied, Refused}
+use Rattle.rules.specs.declared.step.Answer.TheVariants.{Idle, Applied}
+use Rattle.rules.specs.declared.refusal.Refusal.{Refusal}
+use Rattle.rules.specs.declared.refusal.Refusal.TheVariants.{Values, Damaged, NoProcess, NoRound, Down, NotSent, NotPossible, PastLastRound, ShortStore, TooManyRecoveries, TooDeep}
+use Rattle.std.specs.Prelude.{Result, Ok, Err, cond, eqb}
 use Rattle.rules.specs.declared.group.Taken.{Taken}
-use Rattle.rules.specs.Answers.{Said, said, Outcome, outcome}
+use Rattle.rules.specs.Answers.{Said, number_of, said, Outcome, outcome}
 use Rattle.rules.specs.Start.{started}
 use Rattle.rules.specs.Step.{stepped}
 
--- the answer that says this
-answer_of : Bool → Bool → Said → Answer
-answer_of true i s = Applied s.sent s.again s.decided
-answer_of false true s = Idle
-answer_of false false s = Refused s.refusal
+-- the refusal with a number
+refusal_of : ℕ → Refusal
+refusal_of k =
+    cond (eqb k 1) Values
+    (cond (eqb k 2) Damaged
+    (cond (eqb k 3) NoProcess
+    (cond (eqb k 4) NoRound
+    (cond (eqb k 5) Down
+    (cond (eqb k 6) NotSent
+    (cond (eqb k 7) NotPossible
+    (cond (eqb k 8) PastLastRound
+    (cond (eqb k 11) ShortStore
+    (cond (eqb k 13) TooManyRecoveries
+    TooDeep)))))))))
 
-answer-said : (a : Answer) → answer_of (said a).applied (said a).idle (said a) ≡ a
+refusal-number : (r : Refusal) → refusal_of (number_of r) ≡ r
+unfolding refusal_of number_of
+refusal-number Values = refl
+refusal-number Damaged = refl
+refusal-number NoProcess = refl
+refusal-number NoRound = refl
+refusal-number Down = refl
+refusal-number NotSent = refl
+refusal-number NotPossible = refl
+refusal-number PastLastRound = refl
+refusal-number ShortStore = refl
+refusal-number TooManyRecoveries = refl
+refusal-number TooDeep = refl
+
+-- the answer that says this
+answer_of : Bool → Bool → Said → Result Answer Refusal
+answer_of true i s = Ok (Applied s.sent s.again s.decided)
+answer_of false true s = Ok Idle
+answer_of false false s = Err (refusal_of s.refusal)
+
+answer-said : (a : Result Answer Refusal) → answer_of (said a).applied (said a).idle (said a) ≡ a
 unfolding answer_of said
-answer-said Idle = refl
-answer-said (Applied sent again decided) = refl
-answer-said (Refused k) = refl
+answer-said (Ok Idle) = refl
+answer-said (Ok (Applied sent again decided)) = refl
+answer-said (Err r) = ap (λ (q : Refusal). Err q) (refusal-number r)
 
 -- two answers that say the same are one
-pub said-one : (a b : Answer) → said a ≡ said b → a ≡ b
+pub said-one : (a b : Result Answer Refusal) → said a ≡ said b → a ≡ b
 said-one a b e = sym (answer-said a) ∙ ap (λ (s : Said). answer_of s.applied s.idle s) e ∙ answer-said b
 
 -- an outcome has one group, one content of each store and one answer; so have the steps on a lent group
-module _ {g₁ g₂ : Group} {l₁ l₂ d₁ d₂ : List ℕ} {a₁ a₂ : Answer} where
+module _ {g₁ g₂ : Group} {l₁ l₂ d₁ d₂ : List ℕ} {a₁ a₂ : Result Answer Refusal} where
   pub outcome-one : (o : Outcome) → outcome g₁ l₁ d₁ (said a₁) ≡ o → outcome g₂ l₂ d₂ (said a₂) ≡ o → (g₁ ≡ g₂) × (l₁ ≡ l₂) × (d₁ ≡ d₂) × (a₁ ≡ a₂)
   outcome-one o e₁ e₂ =
       let e = e₁ ∙ sym e₂ in (

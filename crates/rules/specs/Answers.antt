@@ -1,8 +1,10 @@
 -- Document 01, "Steps" and "Refusals": what a step answers, and its whole outcome. Assumes nothing.
-use Rattle.std.specs.Prelude.{Bool, true, false, ◌&&◌, not, List, [], ◌∷◌, ℕ, ◌+◌}
+use Rattle.std.specs.Prelude.{Bool, true, false, ◌&&◌, not, List, [], ◌∷◌, ℕ, ◌+◌, Result, Ok, Err}
 use Rattle.rules.specs.declared.group.Group.{Group}
 use Rattle.rules.specs.declared.step.Answer.{Answer}
-use Rattle.rules.specs.declared.step.Answer.TheVariants.{Idle, Applied, Refused}
+use Rattle.rules.specs.declared.step.Answer.TheVariants.{Idle, Applied}
+use Rattle.rules.specs.declared.refusal.Refusal.{Refusal}
+use Rattle.rules.specs.declared.refusal.Refusal.TheVariants.{Values, Damaged, NoProcess, NoRound, Down, NotSent, NotPossible, PastLastRound, ShortStore, TooManyRecoveries, TooDeep}
 
 -- "Every step is applied, idle or refused": which of the three, the refusal's number, *sent*, *again*, and whether the process decided. Request 2026-05:
 -- "*Sent* counts every message handed over, and a new field *again*, right after it, counts those whose entry was sent before."
@@ -23,11 +25,25 @@ says_idle = record { applied = false; idle = true; refusal = 0; sent = 0; again 
 abbrev pub says_refused : ℕ → Said
 says_refused k = record { applied = false; idle = false; refusal = k; sent = 0; again = 0; decided = false }
 
--- what each case of the enum says
-unfoldable pub said : Answer → Said
-said Idle = says_idle
-said (Applied sent again decided) = says_applied sent again decided
-said (Refused k) = says_refused k
+-- the number of each refusal in the table
+unfoldable pub number_of : Refusal → ℕ
+number_of Values = 1
+number_of Damaged = 2
+number_of NoProcess = 3
+number_of NoRound = 4
+number_of Down = 5
+number_of NotSent = 6
+number_of NotPossible = 7
+number_of PastLastRound = 8
+number_of ShortStore = 11
+number_of TooManyRecoveries = 13
+number_of TooDeep = 14
+
+-- what each case of an answer says
+unfoldable pub said : Result Answer Refusal → Said
+said (Ok Idle) = says_idle
+said (Ok (Applied sent again decided)) = says_applied sent again decided
+said (Err r) = says_refused (number_of r)
 
 -- neither applied nor idle
 abbrev pub is_refused : Said → Bool

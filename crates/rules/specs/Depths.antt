@@ -1,8 +1,7 @@
 -- Request 2026-06: the depths of processes and messages, which count communication steps. No rule of document 01 looks at them; refusals 14 and 2 keep their limits. Assumes nothing.
-use Rattle.std.specs.Prelude.{Bool, true, false, ◌&&◌, not, List, ℕ, ◌+◌, max, eqb, get_or, set}
+use Rattle.std.specs.Prelude.{Bool, true, false, ◌&&◌, not, List, ℕ, ◌+◌, max, eqb, get_or, set, Option, Some, None}
 use Rattle.rules.specs.declared.group.Group.{Group}
 use Rattle.rules.specs.declared.process.Message.{Message}
-use Rattle.rules.specs.declared.process.Message.TheVariants.{Nothing, E, S, F, Decision}
 use Rattle.rules.specs.declared.process.Next.{Next}
 use Rattle.rules.specs.declared.step.Step.{Step}
 use Rattle.rules.specs.Layout.{depth_at}
@@ -41,12 +40,9 @@ abbrev pub dated_at : ℕ → ℕ → List ℕ → List ℕ → List ℕ
 dated_at at k l d = dated_if (eqb (get_or l at 0) 0) at k d
 
 -- after process i handed m over to the store l
-unfoldable pub dated : ℕ → Message → ℕ → List ℕ → List ℕ → List ℕ
-dated i Nothing k l d = d
-dated i (E r q v) k l d = dated_at (place_of i (E r q v)) k l d
-dated i (S r) k l d = dated_at (place_of i (S r)) k l d
-dated i (F r q v) k l d = dated_at (place_of i (F r q v)) k l d
-dated i (Decision v) k l d = dated_at (place_of i (Decision v)) k l d
+unfoldable pub dated : ℕ → Option Message → ℕ → List ℕ → List ℕ → List ℕ
+dated i None k l d = d
+dated i (Some m) k l d = dated_at (place_of i m) k l d
 
 -- after both messages of x, the first first
 unfoldable pub dated_both : ℕ → Next → ℕ → List ℕ → List ℕ → List ℕ

@@ -3,11 +3,11 @@
 --
 -- The repairs to the printed figure: 1, an F of a higher round sends i to phase 2 after the jump (`on_f`); 2, tallies are sets of senders (`Tally`); 3, a suspicion in
 -- phase 2 is idle (`Idle.idle_s`); 4, adoption and the majority tests apply to first receptions too (`on_e`, `on_f`); 5, a decision has no round (`Message`).
-use Rattle.std.specs.Prelude.{Bool, true, false, ◌&&◌, not, ℕ, ◌+◌, eqb, ltb}
+use Rattle.std.specs.Prelude.{Bool, true, false, ◌&&◌, not, ℕ, ◌+◌, eqb, ltb, Option, Some, None}
 use Rattle.rules.specs.declared.process.Process.{Process}
 use Rattle.rules.specs.declared.process.Next.{Next}
 use Rattle.rules.specs.declared.process.Message.{Message}
-use Rattle.rules.specs.declared.process.Message.TheVariants.{Nothing, E, S, F, Decision}
+use Rattle.rules.specs.declared.process.Message.TheVariants.{E, S, F, Decision}
 use Rattle.rules.specs.Limits.{coordinator}
 use Rattle.rules.specs.Records.{process_with}
 use Rattle.rules.specs.Tally.{joined, meets}
@@ -68,7 +68,7 @@ recovered p =
 
 -- p, with nothing handed over
 unfoldable pub quiet : Process → Next
-quiet p = record { process = p; first = Nothing; second = Nothing }
+quiet p = record { process = p; first = None; second = None }
 
 -- a change of the record after which the same is handed over
 unfoldable pub changed : (Process → Process) → Next → Next
@@ -84,7 +84,7 @@ jumps r q v p = jumps_if (ltb p.round r) r q v p
 
 -- "*E:* if the tally is empty and i is not the coordinator, i takes the carried estimate and hands over its E with it."
 unfoldable pub relays_if : Bool → ℕ → ℕ → Process → Next
-relays_if true q v p = record { process = takes q v p; first = E p.round q v; second = Nothing }
+relays_if true q v p = record { process = takes q v p; first = Some (E p.round q v); second = None }
 relays_if false q v p = quiet p
 
 unfoldable pub relays : ℕ → ℕ → ℕ → ℕ → Process → Next
@@ -93,7 +93,7 @@ relays n i q v p = relays_if (eqb p.estimates 0 && not (eqb i (coordinator p.rou
 -- "At a majority i decides its estimate's value and hands over its decision."
 unfoldable pub decides_if : Bool → Next → Next
 decides_if true x =
-    record { process = decides x.process.value x.process; first = x.first; second = Decision x.process.value }
+    record { process = decides x.process.value x.process; first = x.first; second = Some (Decision x.process.value) }
 decides_if false x = x
 
 unfoldable pub decides_at : ℕ → Next → Next
@@ -101,7 +101,7 @@ decides_at n x = decides_if (meets x.process.estimates n) x
 
 -- "i goes to phase 2, its estimate tally is emptied, and it hands over F with its estimate"
 unfoldable pub goes_to_phase2 : Process → Next
-goes_to_phase2 p = record { process = second_phase p; first = F p.round p.proposer p.value; second = Nothing }
+goes_to_phase2 p = record { process = second_phase p; first = Some (F p.round p.proposer p.value); second = None }
 
 -- where the test holds
 unfoldable pub goes_to_phase2_if : Bool → Process → Next
@@ -121,11 +121,11 @@ unfoldable pub adopts : ℕ → ℕ → ℕ → Next → Next
 adopts n q v x = adopts_if (eqb q (coordinator x.process.round n)) q v x
 
 -- "At a majority i enters the next round: proposer set to i, value kept, phase 1, no mark, empty tallies; if i coordinates the new round it hands over E."
-unfoldable pub opens_if : Bool → ℕ → ℕ → ℕ → Message
-opens_if true i r v = E r i v
-opens_if false i r v = Nothing
+unfoldable pub opens_if : Bool → ℕ → ℕ → ℕ → Option Message
+opens_if true i r v = Some (E r i v)
+opens_if false i r v = None
 
-unfoldable pub opens : ℕ → ℕ → ℕ → ℕ → Message
+unfoldable pub opens : ℕ → ℕ → ℕ → ℕ → Option Message
 opens n i r v = opens_if (eqb i (coordinator r n)) i r v
 
 unfoldable pub enters_next_if : Bool → ℕ → ℕ → Next → Next
@@ -157,11 +157,11 @@ on_f n i j r q v p = enters_next_at n i (changed (joins_estimates j) (adopts n q
 
 -- "*Decision:* i decides that value and hands over its own."
 unfoldable pub on_decision : ℕ → Process → Next
-on_decision v p = record { process = decides v p; first = Decision v; second = Nothing }
+on_decision v p = record { process = decides v p; first = Some (Decision v); second = None }
 
 -- "**Suspect (i).** .. Sets the mark, hands over S."
 unfoldable pub on_suspect : Process → Next
-on_suspect p = record { process = marks p; first = S p.round; second = Nothing }
+on_suspect p = record { process = marks p; first = Some (S p.round); second = None }
 
 -- "**Pause (i).**"
 unfoldable pub on_pause : Process → Next

@@ -4,8 +4,8 @@
 pub mod Limits
 -- "Records and the message store"
 pub mod Tally
-pub mod Layout
 pub mod Records
+pub mod Layout
 pub mod Store
 -- "Steps" and "Repairs to the printed figure"
 pub mod Events

@@ -1,5 +1,5 @@
 -- Document 01, "Numbers": the limits, the majority, the coordinator. Assumes nothing.
-use Rattle.std.specs.Prelude.{Bool, ◌&&◌, ℕ, ◌+◌, ◌/◌, ◌%◌, ◌^◌, leb, ltb}
+use Rattle.std.specs.Prelude.{Bool, true, false, Option, Some, None, ◌&&◌, ℕ, ◌+◌, ◌/◌, ◌%◌, ◌^◌, leb, ltb}
 
 -- "Processes 1 to n, n from 1 to 16."
 abbrev pub greatest_size : ℕ
@@ -8,6 +8,14 @@ greatest_size = 16
 -- the number m is one of 1..n
 unfoldable pub among : ℕ → ℕ → Bool
 among n m = leb 1 m && leb m n
+
+-- m, where it is one of 1..n
+unfoldable pub some_if : Bool → ℕ → Option ℕ
+some_if true m = Some m
+some_if false m = None
+
+abbrev pub if_among : ℕ → ℕ → Option ℕ
+if_among n m = some_if (among n m) m
 
 -- "Rounds 0 to 63."
 abbrev pub last_round : ℕ

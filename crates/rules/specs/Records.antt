@@ -1,12 +1,9 @@
--- Document 01, "Records and the message store": the record of a process, and the look at one of a group. Assumes nothing.
+-- Document 01, "Records and the message store": the record of a process. Assumes nothing.
 -- "A process has: its first value; round; phase (1 or 2); estimate (a proposer and a value); suspicion mark; decision or none; up or down; and two tallies,
 -- estimates heard and suspicions heard." This is the struct `Process`: `decision` is one where `decided` is true, and none otherwise.
 -- Request 2026-03: "Each process record gains its number of recoveries, kept through crashes", and "It is part of the stored record".
-use Rattle.std.specs.Prelude.{Bool, true, false, ℕ}
-use Rattle.rules.specs.declared.group.Group.{Group}
+use Rattle.std.specs.Prelude.{Bool, false, ℕ}
 use Rattle.rules.specs.declared.process.Process.{Process}
-use Rattle.rules.specs.Limits.{greatest_size, among}
-use Rattle.rules.specs.Layout.{process_at, depth_at}
 
 -- a record by its fields, in this order
 abbrev pub process_with : ℕ → ℕ → ℕ → ℕ → ℕ → Bool → Bool → ℕ → ℕ → Bool → ℕ → ℕ → Process
@@ -55,19 +52,3 @@ stored p =
 -- "Records above n, and all records of a group of size 0, have every number 0, no mark, no decision, empty tallies and are down; no step changes those above n."
 unfoldable pub blank : Process
 blank = process_with 0 0 0 0 0 false false 0 0 false 0 0
-
-unfoldable pub record_if : Bool → Group → ℕ → Process
-record_if true g i = process_at g i
-record_if false g i = blank
-
--- the record of process i for everybody outside: a blank one where i is not 1 to 16
-unfoldable pub record_of : Group → ℕ → Process
-record_of g i = record_if (among greatest_size i) g i
-
--- so its depth: 0 where i is not 1 to 16
-unfoldable pub depth_if : Bool → Group → ℕ → ℕ
-depth_if true g i = depth_at g i
-depth_if false g i = 0
-
-unfoldable pub depth_of : Group → ℕ → ℕ
-depth_of g i = depth_if (among greatest_size i) g i

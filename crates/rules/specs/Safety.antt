@@ -4,7 +4,7 @@ use Rattle.std.specs.Int.Count.{ones}
 use Rattle.rules.specs.declared.group.Group.{Group}
 use Rattle.rules.specs.declared.process.Process.{Process}
 use Rattle.rules.specs.declared.process.Message.{Message}
-use Rattle.rules.specs.declared.process.Message.TheVariants.{Nothing, E, S, F, Decision}
+use Rattle.rules.specs.declared.process.Message.TheVariants.{E, S, F, Decision}
 use Rattle.rules.specs.declared.step.Step.{Step}
 use Rattle.rules.specs.declared.step.Step.TheVariants.{DeliverE, DeliverS, DeliverF, DeliverDecision, Suspect, Pause, Crash, Recover}
 use Rattle.rules.specs.Limits.{greatest_size, values, most_recoveries, too_many, deepest_message, deepest_process, store_length, majority}
@@ -438,7 +438,6 @@ AtMostOne = EveryRun λ vs l d ss. (s : Step) → length (handed_by (at vs l d s
 
 -- a message is an E
 unfoldable pub is_e : Message → Bool
-is_e Nothing = false
 is_e (E r q v) = true
 is_e (S r) = false
 is_e (F r q v) = false

@@ -1,5 +1,5 @@
 -- Document 01, "Records and the message store": start. Assumes nothing.
-use Rattle.std.specs.Prelude.{false, true, List, ℕ, zero, suc, length, get_or}
+use Rattle.std.specs.Prelude.{false, true, List, ℕ, zero, suc, length, get_or, Some}
 use Rattle.rules.specs.declared.group.Group.{Group}
 use Rattle.rules.specs.declared.process.Process.{Process}
 use Rattle.rules.specs.declared.process.Message.{Message}
@@ -27,11 +27,11 @@ first_message v = E 0 1 v
 
 -- "The store is cleared and process 1's E of round 0 is handed over."
 unfoldable pub opened : ℕ → List ℕ → List ℕ
-opened v l = hand_over 1 (first_message v) (cleared store_length l)
+opened v l = hand_over 1 (Some (first_message v)) (cleared store_length l)
 
 -- Request 2026-06, "cleared by start": the second store, and that E has the depth 0
 unfoldable pub opened_depths : ℕ → List ℕ → List ℕ → List ℕ
-opened_depths v l d = dated 1 (first_message v) 0 (cleared store_length l) (cleared store_length d)
+opened_depths v l d = dated 1 (Some (first_message v)) 0 (cleared store_length l) (cleared store_length d)
 
 -- not refused: applied, with that one message handed over. Refused: "a group of size 0"
 unfoldable pub unless_refused_start : ℕ → List ℕ → List ℕ → List ℕ → Outcome

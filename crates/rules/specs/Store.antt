@@ -1,7 +1,7 @@
 -- Document 01, "Records and the message store": the places of the store, its entries, and handing over. Assumes nothing.
-use Rattle.std.specs.Prelude.{List, [], ◌∷◌, ◌++◌, ℕ, zero, suc, ◌+◌, ◌-◌, ◌*◌, ◌/◌, ◌%◌, get_or, set, drop, replicate}
+use Rattle.std.specs.Prelude.{List, [], ◌∷◌, ◌++◌, ℕ, zero, suc, ◌+◌, ◌-◌, ◌*◌, ◌/◌, ◌%◌, get_or, set, drop, replicate, Option, Some, None}
 use Rattle.rules.specs.declared.process.Message.{Message}
-use Rattle.rules.specs.declared.process.Message.TheVariants.{Nothing, E, S, F, Decision}
+use Rattle.rules.specs.declared.process.Message.TheVariants.{E, S, F, Decision}
 use Rattle.rules.specs.Limits.{greatest_size, values, store_length}
 
 -- the kinds of messages that have a round
@@ -34,35 +34,30 @@ value_of e = e % values
 
 -- where a message of process i stands
 unfoldable pub place_of : ℕ → Message → ℕ
-place_of i Nothing = 0
 place_of i (E r q v) = slot r i kind_e
 place_of i (S r) = slot r i kind_s
 place_of i (F r q v) = slot r i kind_f
 place_of i (Decision v) = decision_slot i
 
 -- its round; 0 where it has none
-unfoldable pub message_round : Message → ℕ
-message_round Nothing = 0
-message_round (E r q v) = r
-message_round (S r) = r
-message_round (F r q v) = r
-message_round (Decision v) = 0
+unfoldable pub message_round : Option Message → ℕ
+message_round None = 0
+message_round (Some (E r q v)) = r
+message_round (Some (S r)) = r
+message_round (Some (F r q v)) = r
+message_round (Some (Decision v)) = 0
 
 -- its entry. "Suspicions have the sender as proposer and value 0; decisions the sender and the decided value."
 unfoldable pub entry_for : ℕ → Message → ℕ
-entry_for i Nothing = 0
 entry_for i (E r q v) = entry_of q v
 entry_for i (S r) = entry_of i 0
 entry_for i (F r q v) = entry_of q v
 entry_for i (Decision v) = entry_of i v
 
--- "Handing over writes the entry; entries past 3,088 are never touched." The store after process i handed m over
-unfoldable pub hand_over : ℕ → Message → List ℕ → List ℕ
-hand_over i Nothing l = l
-hand_over i (E r q v) l = set l (place_of i (E r q v)) (entry_for i (E r q v))
-hand_over i (S r) l = set l (place_of i (S r)) (entry_for i (S r))
-hand_over i (F r q v) l = set l (place_of i (F r q v)) (entry_for i (F r q v))
-hand_over i (Decision v) l = set l (place_of i (Decision v)) (entry_for i (Decision v))
+-- "Handing over writes the entry; entries past 3,088 are never touched." The store after process i handed m over, if there is a message
+unfoldable pub hand_over : ℕ → Option Message → List ℕ → List ℕ
+hand_over i None l = l
+hand_over i (Some m) l = set l (place_of i m) (entry_for i m)
 
 -- what is handed over: a message and the process that hands it over
 pub record Handed : Type 0 where
@@ -79,13 +74,10 @@ place_handed h = place_of h.sender h.message
 abbrev pub entry_handed : Handed → ℕ
 entry_handed h = entry_for h.sender h.message
 
--- by process i with m, where that is a message
-unfoldable pub one : ℕ → Message → List Handed
-one i Nothing = []
-one i (E r q v) = handed i (E r q v) ∷ []
-one i (S r) = handed i (S r) ∷ []
-one i (F r q v) = handed i (F r q v) ∷ []
-one i (Decision v) = handed i (Decision v) ∷ []
+-- by process i with m, if there is a message
+unfoldable pub one : ℕ → Option Message → List Handed
+one i None = []
+one i (Some m) = handed i m ∷ []
 
 -- "0 means not sent.": 1 for an entry that is sent
 abbrev pub sent_bit : ℕ → ℕ
@@ -93,12 +85,9 @@ sent_bit zero = 0
 sent_bit (suc e) = 1
 
 -- Request 2026-05, "those whose entry was sent before": 1 where process i hands m over to the store l and its entry in l is sent
-unfoldable pub repeats : ℕ → Message → List ℕ → ℕ
-repeats i Nothing l = 0
-repeats i (E r q v) l = sent_bit (get_or l (place_of i (E r q v)) 0)
-repeats i (S r) l = sent_bit (get_or l (place_of i (S r)) 0)
-repeats i (F r q v) l = sent_bit (get_or l (place_of i (F r q v)) 0)
-repeats i (Decision v) l = sent_bit (get_or l (place_of i (Decision v)) 0)
+unfoldable pub repeats : ℕ → Option Message → List ℕ → ℕ
+repeats i None l = 0
+repeats i (Some m) l = sent_bit (get_or l (place_of i m) 0)
 
 -- the list l with its first n entries 0
 unfoldable pub cleared : ℕ → List ℕ → List ℕ

@@ -1,8 +1,7 @@
-// The way of a step: refused by a number, idle, or taken by a process with its next record and messages, and how high a message that it hears lifts its depth.
+// The way of a step: refused, idle, or taken by a process with its next record and messages, and how high a message that it hears lifts its depth.
 // It is read off the step, one record taken out by value, one entry and one depth; nothing is written here.
-ghost use Rattle.std.specs.Prelude.{◌≡◌, ◌&&◌, not, true, false, ◌+◌, ◌≤◌, ltb};
+ghost use Rattle.std.specs.Prelude.{◌≡◌, ◌&&◌, not, true, false, ◌+◌, ◌≤◌, ltb, is_some, Some, Ok, IfOk};
 ghost use Rattle.rules.specs.Limits as limits;
-ghost use Rattle.rules.specs.Layout.{group_of};
 ghost use Rattle.rules.specs.Store as stores;
 ghost use Rattle.rules.specs.Refusals as refusals;
 ghost use Rattle.rules.specs.Idle as idleness;
@@ -11,102 +10,151 @@ ghost use Rattle.rules.specs.Step as steps;
 ghost use Rattle.rules.specs.Kinds.{delivers};
 ghost use Rattle.rules.specs.Private as private;
 
-use crate::group;
-use crate::group::{Bytes, Flags, Halves, Words};
-use crate::process::{Next, Process};
+use crate::group::Group;
+use crate::process::{Estimate, Next, Process, Seat};
+use crate::refusal::Refusal;
+use crate::size::{Id, Size};
 use crate::step::Step;
-use crate::store::Store;
+use crate::store::{Kind, Store};
 
-// The way of a step: idle, refused with a number, or taken by a process with its next record and messages, and with what lifts its depth:
-// one more than the depth of the message that it hears, and 0 where it hears none.
+// A step that is taken: by which process, with its next record and messages, and with what lifts its depth:
+// one more than the depth of the message that it hears, and 0 where it hears none. A step that is idle gives none.
 #[derive(Clone, Copy)]
-pub enum Way {
-    Idles,
-    Refuses(u8),
-    Takes(u8, Next, u32),
+pub struct Taking {
+    pub taker: Id,
+    pub next: Next,
+    pub lift: u32,
 }
 
-// Where a step leads: refused by a number of its own, or the process that takes it, the place of its message (0 where it delivers none),
-// whether it delivers a message, and whether it recovers a process.
+// Where a step leads: the process that takes it, the place of the message that it delivers, if it delivers one, and whether it recovers the process.
 #[derive(Clone, Copy)]
-pub enum Address {
-    Misses(u8),
-    At {
-        taker: u8,
-        place: usize,
-        delivers: bool,
-        recovers: bool,
-    },
+pub struct Address {
+    pub taker: Id,
+    pub place: Option<usize>,
+    pub recovers: bool,
+}
+
+// A message that a step delivers: its entry and its depth.
+#[derive(Clone, Copy)]
+pub struct Heard {
+    pub entry: u64,
+    pub depth: u16,
+}
+
+impl Heard {
+    // What a step that delivers no message hears.
+    pub(crate) fn nothing() -> Heard
+        ensures { (result.entry ≡ 0) × (result.depth ≡ 0) }
+    {
+        Heard { entry: 0, depth: 0 }
+    }
+
+    // The message at a place, if there is one.
+    #[tactic(auto, unfolding(crate::specs::Private::heard_at))]
+    pub(crate) fn at(store: &[u64], depths: &[u16], place: Option<usize>) -> Option<Heard>
+        requires { private.Placed place store.now depths.now }
+        ensures { result ≡ private.heard_at place store.now depths.now }
+    {
+        let place = place?;
+        Some(Heard {
+            entry: store[place],
+            depth: depths[place],
+        })
+    }
+
+    // What its entry carries.
+    pub(crate) fn estimate(self) -> Estimate
+        requires { stores.proposer_of self.entry ≤ limits.greatest_size }
+        ensures { (result.proposer ≡ stores.proposer_of self.entry) × (result.value ≡ stores.value_of self.entry) }
+    {
+        Store::estimate_of(self.entry)
+    }
+
+    // What it lifts a depth to.
+    pub(crate) fn lift(self) -> u32
+        ensures { result ≡ self.depth + 1 }
+    {
+        self.depth as u32 + 1
+    }
+
+    // Refusals 6, the entry's 2 and the message's 14 of a group of n; or the message.
+    #[tactic(auto, unfolding(crate::specs::Private::refused_by, crate::specs::Answers::number_of, crate::specs::Refusals::row, crate::specs::Limits::some_if))]
+    pub(crate) fn fits(self, n: Size) -> Result<Heard, Refusal>
+        ensures rows { private.refused_by result ≡ private.heard_rows n self.entry self.depth }
+        ensures same { IfOk result (λ h. h ≡ self) }
+    {
+        if self.entry == 0 {
+            return Err(Refusal::NotSent);
+        }
+        if n.id((self.entry / Store::VALUES) as u32).is_none() {
+            return Err(Refusal::Damaged);
+        }
+        if Store::DEEPEST < self.depth {
+            return Err(Refusal::TooDeep);
+        }
+        Ok(self)
+    }
 }
 
 // ---- the step alone
 
 // The address of an E, S or F.
-pub(crate) fn message_address(n: u8, to: u32, from: u32, round: u32, kind: usize) -> Address
-    requires { (n ≤ limits.greatest_size) × (kind ≤ 2) }
-    ensures { result ≡ private.unless_missed (refusals.row (not (limits.among n to && (limits.among n from && true))) 3 (refusals.row (ltb limits.last_round round) 4 0)) (Address.At to (stores.slot round from kind) true false) }
+#[tactic(auto, unfolding(crate::specs::Private::told_address, crate::specs::Private::unless_missed, crate::specs::Private::place_or, crate::specs::Answers::number_of, crate::specs::Refusals::row, crate::specs::Limits::some_if))]
+pub(crate) fn message_address(
+    n: Size,
+    to: u32,
+    from: u32,
+    round: u32,
+    kind: Kind,
+) -> Result<Address, Refusal>
+    ensures { private.told_address result ≡ private.unless_missed (refusals.row (not (limits.among n to && (limits.among n from && true))) 3 (refusals.row (ltb limits.last_round round) 4 0)) (private.At to (stores.slot round from (private.kind_of kind)) true false) }
 {
-    if !group::among(n, to) {
-        return Address::Misses(3);
-    }
-    if !group::among(n, from) {
-        return Address::Misses(3);
-    }
+    let taker = n.id(to).ok_or(Refusal::NoProcess)?;
+    let sender = n.id(from).ok_or(Refusal::NoProcess)?;
     if (Process::LAST_ROUND as u32) < round {
-        return Address::Misses(4);
+        return Err(Refusal::NoRound);
     }
-    let taker = to as u8;
-    let place = Store::slot(round as u8, from as u8, kind);
-    Address::At {
+    let place = Store::slot(round as u8, sender, kind);
+    Ok(Address {
         taker,
-        place,
-        delivers: true,
+        place: Some(place),
         recovers: false,
-    }
+    })
 }
 
 // The address of a decision.
-pub(crate) fn decision_address(n: u8, to: u32, from: u32) -> Address
-    requires { n ≤ limits.greatest_size }
-    ensures { result ≡ private.unless_missed (refusals.row (not (limits.among n to && (limits.among n from && true))) 3 0) (Address.At to (stores.decision_slot from) true false) }
+#[tactic(auto, unfolding(crate::specs::Private::told_address, crate::specs::Private::unless_missed, crate::specs::Private::place_or, crate::specs::Answers::number_of, crate::specs::Refusals::row, crate::specs::Limits::some_if))]
+pub(crate) fn decision_address(n: Size, to: u32, from: u32) -> Result<Address, Refusal>
+    ensures { private.told_address result ≡ private.unless_missed (refusals.row (not (limits.among n to && (limits.among n from && true))) 3 0) (private.At to (stores.decision_slot from) true false) }
 {
-    if !group::among(n, to) {
-        return Address::Misses(3);
-    }
-    if !group::among(n, from) {
-        return Address::Misses(3);
-    }
-    let taker = to as u8;
-    let place = Store::decision_slot(from as u8);
-    Address::At {
+    let taker = n.id(to).ok_or(Refusal::NoProcess)?;
+    let sender = n.id(from).ok_or(Refusal::NoProcess)?;
+    let place = Store::decision_slot(sender);
+    Ok(Address {
         taker,
-        place,
-        delivers: true,
+        place: Some(place),
         recovers: false,
-    }
+    })
 }
 
 // The address of a step of one process.
-pub(crate) fn own_address(n: u8, process: u32, recovers: bool) -> Address
-    ensures { result ≡ private.unless_missed (refusals.row (not (limits.among n process && true)) 3 0) (Address.At process 0 false recovers) }
+#[tactic(auto, unfolding(crate::specs::Private::told_address, crate::specs::Private::unless_missed, crate::specs::Private::place_or, crate::specs::Answers::number_of, crate::specs::Refusals::row, crate::specs::Limits::some_if))]
+pub(crate) fn own_address(n: Size, process: u32, recovers: bool) -> Result<Address, Refusal>
+    ensures { private.told_address result ≡ private.unless_missed (refusals.row (not (limits.among n process && true)) 3 0) (private.At process 0 false recovers) }
 {
-    if !group::among(n, process) {
-        return Address::Misses(3);
-    }
-    let taker = process as u8;
-    Address::At {
+    let taker = n.id(process).ok_or(Refusal::NoProcess)?;
+    Ok(Address {
         taker,
-        place: 0,
-        delivers: false,
-        recovers: recovers,
-    }
+        place: None,
+        recovers,
+    })
 }
 
 impl Step {
     // Where the step leads in a group of n: refusals 3 and 4, then what it reads.
-    pub(crate) fn address(self, n: u8) -> Address
-        requires { n ≤ limits.greatest_size }
-        ensures { result ≡ private.address_of n self }
+    #[tactic(auto, unfolding(crate::specs::Private::address_of, crate::specs::Private::number_rows, crate::specs::Kinds::numbers_of, crate::specs::Refusals::every, crate::specs::Refusals::late, crate::specs::Refusals::row, crate::specs::Kinds::round_of, crate::specs::Kinds::taker_of, crate::specs::Kinds::slot_of, crate::specs::Kinds::delivers, crate::specs::Refusals::is_recover, crate::specs::Private::kind_of))]
+    pub(crate) fn address(self, n: Size) -> Result<Address, Refusal>
+        ensures { private.told_address result ≡ private.address_of n self }
     {
         match self {
             Step::DeliverE {
@@ -114,19 +162,19 @@ impl Step {
                 from,
                 round,
                 cut: _,
-            } => message_address(n, to, from, round, Store::E),
+            } => message_address(n, to, from, round, Kind::E),
             Step::DeliverS {
                 to,
                 from,
                 round,
                 cut: _,
-            } => message_address(n, to, from, round, Store::S),
+            } => message_address(n, to, from, round, Kind::S),
             Step::DeliverF {
                 to,
                 from,
                 round,
                 cut: _,
-            } => message_address(n, to, from, round, Store::F),
+            } => message_address(n, to, from, round, Kind::F),
             Step::DeliverDecision { to, from, cut: _ } => decision_address(n, to, from),
             Step::Suspect { process, cut: _ } => own_address(n, process, false),
             Step::Pause { process } => own_address(n, process, false),
@@ -136,152 +184,177 @@ impl Step {
     }
 }
 
-// Whether a step meets a process that is down, and does not recover it.
-pub(crate) fn is_down(up: bool, recovers: bool) -> bool
-    ensures { result ≡ (not recovers && not up) }
-{
-    !recovers && !up
-}
-
-// Refusals 5, 6, the entry's 2 and the message's 14, or 0.
-pub(crate) fn held_refusal(
-    n: u8,
+// Refusal 5, where a step meets a process that is down and does not recover it, and those of the message that it delivers; or what it hears.
+#[tactic(auto, unfolding(crate::specs::Private::refused_by, crate::specs::Private::held_rows, crate::specs::Private::entry_heard, crate::specs::Private::depth_heard, crate::specs::Answers::number_of, crate::specs::Refusals::row))]
+pub(crate) fn held(
+    n: Size,
     up: bool,
-    entry: u64,
-    depth: u16,
-    delivers: bool,
+    heard: Option<Heard>,
     recovers: bool,
-) -> u8
-    ensures { result ≡ private.held_rows n up entry depth delivers recovers }
+) -> Result<Heard, Refusal>
+    ensures rows { private.refused_by result ≡ private.held_rows n up (private.entry_heard heard) (private.depth_heard heard) (is_some heard) recovers }
+    ensures same { IfOk result (λ h. (h.entry ≡ private.entry_heard heard) × (h.depth ≡ private.depth_heard heard)) }
 {
-    if is_down(up, recovers) {
-        return 5;
+    if !recovers && !up {
+        return Err(Refusal::Down);
     }
-    if !delivers {
-        return 0;
+    match heard {
+        Some(message) => message.fits(n),
+        None => Ok(Heard::nothing()),
     }
-    if entry == 0 {
-        return 6;
-    }
-    if !group::among(n, (entry / Store::VALUES) as u32) {
-        return 2;
-    }
-    if Store::DEEPEST < depth {
-        return 14;
-    }
-    0
 }
 
 // ---- ways of one process
 
+// A step that hears nothing and is taken.
+#[tactic(auto, unfolding(crate::specs::Private::told, crate::specs::Private::lifted))]
+pub(crate) fn way_on(i: Id, next: Next) -> Option<Taking>
+    ensures { private.told (Ok result) ≡ private.lifted 0 (steps.Takes i next) }
+{
+    Some(Taking {
+        taker: i,
+        next,
+        lift: 0,
+    })
+}
+
 impl Process {
     // An idle delivery: nothing, and a crash where it is cut.
-    pub(crate) fn idles(self, i: u8, cut: bool) -> Way
-        ensures { result ≡ private.lifted 0 (steps.idles cut i self) }
+    #[tactic(auto, unfolding(crate::specs::Private::told, crate::specs::Private::lifted, crate::specs::Step::idles))]
+    pub(crate) fn idles(self, i: Id, cut: bool) -> Option<Taking>
+        ensures { private.told (Ok result) ≡ private.lifted 0 (steps.idles cut i self) }
     {
         if cut {
-            Way::Takes(i, self.on_crash(), 0)
+            way_on(i, self.on_crash())
         } else {
-            Way::Idles
+            None
         }
     }
 
+    #[tactic(auto, unfolding(crate::specs::Private::told, crate::specs::Private::lifted, crate::specs::Private::lift_unless, crate::specs::Step::or_idle))]
     pub(crate) fn way_e(
         self,
-        n: u8,
-        i: u8,
-        sender: u8,
+        seat: Seat,
+        sender: Id,
         round: u8,
-        entry: u64,
+        heard: Heard,
         cut: bool,
-        lift: u32,
-    ) -> Way
-        requires { (1 ≤ n) × (1 ≤ sender) × (sender ≤ limits.greatest_size) × (stores.proposer_of entry ≤ limits.greatest_size) }
-        ensures { result ≡ private.lifted (private.lift_unless (idleness.idle_e self sender round) lift) (steps.or_idle (idleness.idle_e self sender round) cut i self (events.on_e n i sender round (stores.proposer_of entry) (stores.value_of entry) self)) }
+    ) -> Option<Taking>
+        requires { stores.proposer_of heard.entry ≤ limits.greatest_size }
+        ensures { private.told (Ok result) ≡ private.lifted (private.lift_unless (idleness.idle_e self sender round) (heard.depth + 1)) (steps.or_idle (idleness.idle_e self sender round) cut seat.i self (events.on_e seat.n seat.i sender round (stores.proposer_of heard.entry) (stores.value_of heard.entry) self)) }
     {
+        let i = seat.i;
         if self.idle_e(sender, round) {
             return self.idles(i, cut);
         }
-        let next = self.on_e(
-            n,
-            i,
-            sender,
-            round,
-            Store::proposer_of(entry),
-            Store::value_of(entry),
-        );
-        Way::Takes(i, next.cut_if(cut), lift)
+        let next = self.on_e(seat, sender, round, heard.estimate());
+        Some(Taking {
+            taker: i,
+            next: next.cut_if(cut),
+            lift: heard.lift(),
+        })
     }
 
-    pub(crate) fn way_s(self, n: u8, i: u8, sender: u8, round: u8, cut: bool, lift: u32) -> Way
-        requires { (1 ≤ sender) × (sender ≤ limits.greatest_size) }
-        ensures { result ≡ private.lifted (private.lift_unless (idleness.idle_s self sender round) lift) (steps.or_idle (idleness.idle_s self sender round) cut i self (events.on_s n sender self)) }
+    #[tactic(auto, unfolding(crate::specs::Private::told, crate::specs::Private::lifted, crate::specs::Private::lift_unless, crate::specs::Step::or_idle))]
+    pub(crate) fn way_s(
+        self,
+        seat: Seat,
+        sender: Id,
+        round: u8,
+        heard: Heard,
+        cut: bool,
+    ) -> Option<Taking>
+        ensures { private.told (Ok result) ≡ private.lifted (private.lift_unless (idleness.idle_s self sender round) (heard.depth + 1)) (steps.or_idle (idleness.idle_s self sender round) cut seat.i self (events.on_s seat.n sender self)) }
     {
         if self.idle_s(sender, round) {
-            return self.idles(i, cut);
+            return self.idles(seat.i, cut);
         }
-        let next = self.on_s(n, sender);
-        Way::Takes(i, next.cut_if(cut), lift)
+        let next = self.on_s(seat.n, sender);
+        Some(Taking {
+            taker: seat.i,
+            next: next.cut_if(cut),
+            lift: heard.lift(),
+        })
     }
 
     // An F that would take the process past the last round is refused.
+    #[tactic(auto, unfolding(crate::specs::Private::told, crate::specs::Private::lifted, crate::specs::Private::lift_unless, crate::specs::Step::or_idle, crate::specs::Private::or_past, crate::specs::Private::unless_past, crate::specs::Answers::number_of))]
     pub(crate) fn way_f(
         self,
-        n: u8,
-        i: u8,
-        sender: u8,
+        seat: Seat,
+        sender: Id,
         round: u8,
-        entry: u64,
+        heard: Heard,
         cut: bool,
-        lift: u32,
-    ) -> Way
-        requires { (1 ≤ n) × (1 ≤ sender) × (sender ≤ limits.greatest_size) × (self.round ≤ limits.last_round) × (round ≤ limits.last_round) × (stores.proposer_of entry ≤ limits.greatest_size) }
-        ensures { result ≡ private.lifted (private.lift_unless (idleness.idle_f self sender round) lift) (private.or_past (idleness.idle_f self sender round) cut i self (events.on_f n i sender round (stores.proposer_of entry) (stores.value_of entry) self)) }
+    ) -> Result<Option<Taking>, Refusal>
+        requires { (self.round ≤ limits.last_round) × (round ≤ limits.last_round) × (stores.proposer_of heard.entry ≤ limits.greatest_size) }
+        ensures { private.told result ≡ private.lifted (private.lift_unless (idleness.idle_f self sender round) (heard.depth + 1)) (private.or_past (idleness.idle_f self sender round) cut seat.i self (events.on_f seat.n seat.i sender round (stores.proposer_of heard.entry) (stores.value_of heard.entry) self)) }
     {
+        let i = seat.i;
         if self.idle_f(sender, round) {
-            return self.idles(i, cut);
+            return Ok(self.idles(i, cut));
         }
-        let next = self.on_f(
-            n,
-            i,
-            sender,
-            round,
-            Store::proposer_of(entry),
-            Store::value_of(entry),
-        );
+        let next = self.on_f(seat, sender, round, heard.estimate());
         if Process::LAST_ROUND < next.process.round {
-            return Way::Refuses(8);
+            return Err(Refusal::PastLastRound);
         }
-        Way::Takes(i, next.cut_if(cut), lift)
+        Ok(Some(Taking {
+            taker: i,
+            next: next.cut_if(cut),
+            lift: heard.lift(),
+        }))
     }
 
-    pub(crate) fn way_decision(self, i: u8, entry: u64, cut: bool, lift: u32) -> Way
-        ensures { result ≡ private.lifted (private.lift_unless self.decided lift) (steps.or_idle self.decided cut i self (events.on_decision (stores.value_of entry) self)) }
+    #[tactic(auto, unfolding(crate::specs::Private::told, crate::specs::Private::lifted, crate::specs::Private::lift_unless, crate::specs::Step::or_idle, crate::specs::Events::on_decision))]
+    pub(crate) fn way_decision(self, i: Id, heard: Heard, cut: bool) -> Option<Taking>
+        ensures { private.told (Ok result) ≡ private.lifted (private.lift_unless self.decided (heard.depth + 1)) (steps.or_idle self.decided cut i self (events.on_decision (stores.value_of heard.entry) self)) }
     {
         if self.decided {
             return self.idles(i, cut);
         }
-        let next = self.on_decision(Store::value_of(entry));
-        Way::Takes(i, next.cut_if(cut), lift)
+        let next = self.on_decision(Store::value_of(heard.entry));
+        Some(Taking {
+            taker: i,
+            next: next.cut_if(cut),
+            lift: heard.lift(),
+        })
+    }
+
+    // A suspicion that is not possible is refused.
+    #[tactic(auto, unfolding(crate::specs::Private::told, crate::specs::Private::lifted, crate::specs::Private::or_impossible, crate::specs::Answers::number_of))]
+    pub(crate) fn way_suspect(self, i: Id, cut: bool) -> Result<Option<Taking>, Refusal>
+        ensures { private.told result ≡ private.lifted 0 (private.or_impossible (refusals.may_suspect self) cut i self) }
+    {
+        if !self.may_suspect() {
+            return Err(Refusal::NotPossible);
+        }
+        Ok(way_on(i, self.on_suspect().cut_if(cut)))
     }
 
     // A recovery of a process that is up is refused, and so is one that would be too many.
-    pub(crate) fn way_recover(self, i: u8) -> Way
-        ensures { result ≡ private.lifted 0 (private.or_up self.up i self) }
+    #[tactic(auto, unfolding(crate::specs::Private::told, crate::specs::Private::lifted, crate::specs::Private::or_up, crate::specs::Private::unless_many, crate::specs::Answers::number_of))]
+    pub(crate) fn way_recover(self, i: Id) -> Result<Option<Taking>, Refusal>
+        ensures { private.told result ≡ private.lifted 0 (private.or_up self.up i self) }
     {
         if self.up {
-            return Way::Refuses(7);
+            return Err(Refusal::NotPossible);
         }
         if Process::MOST_RECOVERIES <= self.recoveries {
-            return Way::Refuses(13);
+            return Err(Refusal::TooManyRecoveries);
         }
-        Way::Takes(i, self.on_recover(), 0)
+        Ok(way_on(i, self.on_recover()))
     }
 
     // The way of a step that none of 11 to the message's 14 stops.
-    pub(crate) fn last_way(self, n: u8, i: u8, entry: u64, lift: u32, step: Step) -> Way
-        requires { private.Numbered n self step × (delivers step ≡ true → stores.proposer_of entry ≤ limits.greatest_size) }
-        ensures { result ≡ private.lifted (private.lifts self step lift) (private.last_course n i entry self step) }
+    #[tactic(auto, unfolding(crate::specs::Private::last_course, crate::specs::Private::lifts, crate::specs::Kinds::delivers))]
+    pub(crate) fn last_way(
+        self,
+        seat: Seat,
+        heard: Heard,
+        step: Step,
+    ) -> Result<Option<Taking>, Refusal>
+        requires { private.Numbered seat.n self step × (delivers step ≡ true → stores.proposer_of heard.entry ≤ limits.greatest_size) }
+        ensures { private.told result ≡ private.lifted (private.lifts self step (heard.depth + 1)) (private.last_course seat.n seat.i heard.entry self step) }
     {
         match step {
             Step::DeliverE {
@@ -289,91 +362,66 @@ impl Process {
                 from,
                 round,
                 cut,
-            } => self.way_e(n, i, from as u8, round as u8, entry, cut, lift),
+            } => Ok(self.way_e(seat, Id::known(from), round as u8, heard, cut)),
             Step::DeliverS {
                 to: _,
                 from,
                 round,
                 cut,
-            } => self.way_s(n, i, from as u8, round as u8, cut, lift),
+            } => Ok(self.way_s(seat, Id::known(from), round as u8, heard, cut)),
             Step::DeliverF {
                 to: _,
                 from,
                 round,
                 cut,
-            } => self.way_f(n, i, from as u8, round as u8, entry, cut, lift),
+            } => self.way_f(seat, Id::known(from), round as u8, heard, cut),
             Step::DeliverDecision {
                 to: _,
                 from: _,
                 cut,
-            } => self.way_decision(i, entry, cut, lift),
-            Step::Suspect { process: _, cut } => self.way_suspect(i, cut),
-            Step::Pause { process: _ } => Way::Takes(i, self.on_pause(), 0),
-            Step::Crash { process: _ } => Way::Takes(i, self.on_crash(), 0),
-            Step::Recover { process: _ } => self.way_recover(i),
+            } => Ok(self.way_decision(seat.i, heard, cut)),
+            Step::Suspect { process: _, cut } => self.way_suspect(seat.i, cut),
+            Step::Pause { process: _ } => Ok(way_on(seat.i, self.on_pause())),
+            Step::Crash { process: _ } => Ok(way_on(seat.i, self.on_crash())),
+            Step::Recover { process: _ } => self.way_recover(seat.i),
         }
     }
 
     // The way of a step that none of 11 to 4 stops.
+    #[tactic(auto, unfolding(crate::specs::Private::lifted))]
     pub(crate) fn way(
         self,
-        n: u8,
-        i: u8,
-        entry: u64,
-        depth: u16,
-        delivering: bool,
-        recovering: bool,
+        seat: Seat,
+        heard: Option<Heard>,
+        recovers: bool,
         step: Step,
-    ) -> Way
-        requires { private.Numbered n self step × (delivering ≡ delivers step) × (recovering ≡ refusals.is_recover step) }
-        ensures { result ≡ private.lifted (private.lifts self step (depth + 1)) (private.held_course n i entry depth self step) }
+    ) -> Result<Option<Taking>, Refusal>
+        requires { private.Numbered seat.n self step × (is_some heard ≡ delivers step) × (recovers ≡ refusals.is_recover step) }
+        ensures { private.told result ≡ private.lifted (private.lifts self step (private.depth_heard heard + 1)) (private.held_course seat.n seat.i (private.entry_heard heard) (private.depth_heard heard) self step) }
     {
-        let refusal = held_refusal(n, self.up, entry, depth, delivering, recovering);
-        if refusal != 0 {
-            return Way::Refuses(refusal);
-        }
-        self.last_way(n, i, entry, depth as u32 + 1, step)
-    }
-
-    // A suspicion that is not possible is refused.
-    pub(crate) fn way_suspect(self, i: u8, cut: bool) -> Way
-        ensures { result ≡ private.lifted 0 (private.or_impossible (refusals.may_suspect self) cut i self) }
-    {
-        if self.may_suspect() {
-            return Way::Takes(i, self.on_suspect().cut_if(cut), 0);
-        }
-        Way::Refuses(7)
+        let heard = held(seat.n, self.up, heard, recovers)?;
+        self.last_way(seat, heard, step)
     }
 }
 
-// ---- the way of a step over lent arrays, which it only reads
+// ---- the way of a step of a group, which it only reads
 
-pub(crate) fn way_of(
-    n: u8,
-    words: &Words,
-    halves: &Halves,
-    bytes: &Bytes,
-    flags: &Flags,
-    store: &[u64],
-    depths: &[u16],
-    step: Step,
-) -> Way
-    requires { steps.Ready (group_of n words.now halves.now bytes.now flags.now) store.now depths.now }
-    ensures { result ≡ private.way_of (group_of n words.now halves.now bytes.now flags.now) store.now depths.now step }
-{
-    let address = step.address(n);
-    match address {
-        Address::Misses(number) => Way::Refuses(number),
-        Address::At {
-            taker,
-            place,
-            delivers,
-            recovers,
-        } => {
-            let entry = store[place];
-            let depth = depths[place];
-            let p = group::take_out(words, halves, bytes, flags, taker);
-            p.way(n, taker, entry, depth, delivers, recovers, step)
-        }
+impl Group {
+    pub(crate) fn way_of(
+        &self,
+        store: &[u64],
+        depths: &[u16],
+        step: Step,
+    ) -> Result<Option<Taking>, Refusal>
+        requires { steps.Ready self.now store.now depths.now }
+        ensures { private.told result ≡ private.way_of self.now store.now depths.now step }
+    {
+        let n = Size::known(self.n);
+        let address = step.address(n)?;
+        let heard = Heard::at(store, depths, address.place);
+        let i = address.taker;
+        self.member(i)
+            .process
+            .way(Seat { n, i }, heard, address.recovers, step)
     }
 }

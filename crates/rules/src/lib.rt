@@ -1,11 +1,12 @@
 // The rules of one consensus among n processes: records, the message store, start and step.
 // Every step on every group and every store is taken or refused by number. Knows nothing of files.
-// Each file knows only those that stand above it here.
 #![tactic(auto)]
 
 pub mod course;
 pub mod group;
 pub mod process;
+pub mod refusal;
+pub mod size;
 mod start;
 pub mod step;
 pub mod store;

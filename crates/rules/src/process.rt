@@ -1,6 +1,6 @@
 // The record of one process, and what it does with each kind of event.
 // A method takes the record by value and gives back the next one, with the messages that it hands over. Knows no group and no store.
-ghost use Rattle.std.specs.Prelude.{◌≡◌, ◌+◌, ◌≤◌};
+ghost use Rattle.std.specs.Prelude.{◌≡◌, ◌+◌, ◌≤◌, eqb};
 ghost use Rattle.rules.specs.Limits as limits;
 ghost use Rattle.rules.specs.Records as records;
 ghost use Rattle.rules.specs.Events as events;
@@ -8,19 +8,35 @@ ghost use Rattle.rules.specs.Idle as idleness;
 ghost use Rattle.rules.specs.Refusals as refusals;
 ghost use Rattle.rules.specs.Start as starts;
 
+use crate::size::{Id, Size};
 use crate::tally;
 
-// A message that a process hands over, or nothing. It is for all; its sender is the process.
+// A message that a process hands over. It is for all; its sender is the process.
 #[derive(Clone, Copy)]
 pub enum Message {
-    Nothing,
     E { round: u8, proposer: u8, value: u32 },
     S { round: u8 },
     F { round: u8, proposer: u8, value: u32 },
     Decision { value: u32 },
 }
 
+// An estimate: the process that proposed it, and its value.
+#[derive(Clone, Copy)]
+pub struct Estimate {
+    pub proposer: u8,
+    pub value: u32,
+}
+
+// Where a process stands: the size of its group, and which of it the process is.
+#[derive(Clone, Copy)]
+pub struct Seat {
+    pub n: Size,
+    pub i: Id,
+}
+
 // A process. `decision` is one where `decided` is true, and none otherwise. All but `up` and the tallies is the stored record.
+// Two fields and not an option: `Group::step` promises an answer for every group, one with a number under a false `decided` too, and keeps that number.
+// Phases stay numbers, and round and proposer of any size: a record with another phase is damaged, and refused by that.
 // The two that no message changes stand first, the others by width: of the orders tried this one is cheapest to take out and to put back.
 #[derive(Clone, Copy)]
 pub struct Process {
@@ -42,16 +58,41 @@ pub struct Process {
 #[derive(Clone, Copy)]
 pub struct Next {
     pub process: Process,
-    pub first: Message,
-    pub second: Message,
+    pub first: Option<Message>,
+    pub second: Option<Message>,
 }
 
 // The coordinator of a round among n.
-pub(crate) fn coordinator(round: u8, n: u8) -> u8
-    requires { 1 ≤ n }
+pub(crate) fn coordinator(round: u8, n: Size) -> u8
     ensures { result ≡ limits.coordinator round n }
 {
-    round % n + 1
+    round % n.number() + 1
+}
+
+impl Seat {
+    // Whether the process coordinates a round.
+    pub(crate) fn coordinates(self, round: u8) -> bool
+        ensures { result ≡ eqb self.i (limits.coordinator round self.n) }
+    {
+        self.i.number() == coordinator(round, self.n)
+    }
+
+    // The E with which the process opens a round, where it is the coordinator.
+    #[tactic(auto, unfolding(crate::specs::Events::opens, crate::specs::Events::opens_if))]
+    pub(crate) fn opens(self, round: u8, value: u32) -> Option<Message>
+        ensures { result ≡ events.opens self.n self.i round value }
+    {
+        let i = self.i;
+        if self.coordinates(round) {
+            Some(Message::E {
+                round,
+                proposer: i.number(),
+                value,
+            })
+        } else {
+            None
+        }
+    }
 }
 
 impl Process {
@@ -76,14 +117,15 @@ impl Process {
     }
 
     // The record of process i at a start.
-    pub(crate) fn fresh(i: u8, value: u32) -> Process
+    #[tactic(auto, unfolding(crate::specs::Start::fresh))]
+    pub(crate) fn fresh(i: Id, value: u32) -> Process
         ensures { result ≡ starts.fresh i value }
     {
         Process {
             first: value,
             round: 0,
             phase: 1,
-            proposer: i,
+            proposer: i.number(),
             value: value,
             marked: false,
             decided: false,
@@ -96,6 +138,7 @@ impl Process {
     }
 
     // The record above a group's size.
+    #[tactic(auto, unfolding(crate::specs::Records::blank))]
     pub(crate) fn blank() -> Process
         ensures { result ≡ records.blank }
     {
@@ -118,26 +161,29 @@ impl Process {
     // ---- stages
 
     // The record, with nothing handed over.
+    #[tactic(auto, unfolding(crate::specs::Events::quiet))]
     pub(crate) fn quiet(self) -> Next
         ensures { result ≡ events.quiet self }
     {
         Next {
             process: self,
-            first: Message::Nothing,
-            second: Message::Nothing,
+            first: None,
+            second: None,
         }
     }
 
     // With another estimate.
-    pub(crate) fn takes(mut self, proposer: u8, value: u32) -> Process
-        ensures { result ≡ events.takes proposer value self }
+    #[tactic(auto, unfolding(crate::specs::Events::takes))]
+    pub(crate) fn takes(mut self, estimate: Estimate) -> Process
+        ensures { result ≡ events.takes estimate.proposer estimate.value self }
     {
-        self.proposer = proposer;
-        self.value = value;
+        self.proposer = estimate.proposer;
+        self.value = estimate.value;
         self
     }
 
     // In another round: phase 1, no mark, empty tallies.
+    #[tactic(auto, unfolding(crate::specs::Events::enters))]
     pub(crate) fn enters(mut self, round: u8) -> Process
         ensures { result ≡ events.enters round self }
     {
@@ -150,41 +196,44 @@ impl Process {
     }
 
     // After a message of a round that may be higher.
-    pub(crate) fn jumps(self, round: u8, proposer: u8, value: u32) -> Process
-        ensures { result ≡ events.jumps round proposer value self }
+    #[tactic(auto, unfolding(crate::specs::Events::jumps, crate::specs::Events::jumps_if))]
+    pub(crate) fn jumps(self, round: u8, carried: Estimate) -> Process
+        ensures { result ≡ events.jumps round carried.proposer carried.value self }
     {
         if self.round < round {
-            self.enters(round).takes(proposer, value)
+            self.enters(round).takes(carried)
         } else {
             self
         }
     }
 
     // With the carried estimate and its E, where it has heard no E and is not the coordinator.
-    pub(crate) fn relays(self, n: u8, i: u8, proposer: u8, value: u32) -> Next
-        requires { 1 ≤ n }
-        ensures { result ≡ events.relays n i proposer value self }
+    #[tactic(auto, unfolding(crate::specs::Events::relays, crate::specs::Events::relays_if))]
+    pub(crate) fn relays(self, seat: Seat, carried: Estimate) -> Next
+        ensures { result ≡ events.relays seat.n seat.i carried.proposer carried.value self }
     {
         let round = self.round;
         if self.estimates != 0 {
             return self.quiet();
         }
-        if i == coordinator(round, n) {
+        if seat.coordinates(round) {
             return self.quiet();
         }
-        let process = self.takes(proposer, value);
+        let process = self.takes(carried);
+        let Estimate { proposer, value } = carried;
         Next {
             process: process,
-            first: Message::E {
+            first: Some(Message::E {
                 round,
                 proposer,
                 value,
-            },
-            second: Message::Nothing,
+            }),
+            second: None,
         }
     }
 
     // With the decision v.
+    #[tactic(auto, unfolding(crate::specs::Events::decides))]
     pub(crate) fn decides(mut self, v: u32) -> Process
         ensures { result ≡ events.decides v self }
     {
@@ -194,6 +243,7 @@ impl Process {
     }
 
     // In phase 2, with the F that it hands over.
+    #[tactic(auto, unfolding(crate::specs::Events::goes_to_phase2, crate::specs::Events::second_phase))]
     pub(crate) fn goes_to_phase_2(self) -> Next
         ensures { result ≡ events.goes_to_phase2 self }
     {
@@ -205,16 +255,17 @@ impl Process {
         process.estimates = 0;
         Next {
             process: process,
-            first: Message::F {
+            first: Some(Message::F {
                 round,
                 proposer,
                 value,
-            },
-            second: Message::Nothing,
+            }),
+            second: None,
         }
     }
 
     // In phase 2, whichever it was in.
+    #[tactic(auto, unfolding(crate::specs::Events::to_phase2, crate::specs::Events::goes_to_phase2_if))]
     pub(crate) fn to_phase_2(self) -> Next
         ensures { result ≡ events.to_phase2 self }
     {
@@ -228,18 +279,19 @@ impl Process {
     // ---- events
 
     // An E of a round from the sender, to process i of n.
-    pub(crate) fn on_e(self, n: u8, i: u8, sender: u8, round: u8, proposer: u8, value: u32) -> Next
-        requires { (1 ≤ n) × (1 ≤ sender) × (sender ≤ limits.greatest_size) }
-        ensures { result ≡ events.on_e n i sender round proposer value self }
+    #[tactic(auto, unfolding(crate::specs::Events::on_e, crate::specs::Events::changed))]
+    pub(crate) fn on_e(self, seat: Seat, sender: Id, round: u8, carried: Estimate) -> Next
+        ensures { result ≡ events.on_e seat.n seat.i sender round carried.proposer carried.value self }
     {
-        let jumped = self.jumps(round, proposer, value);
-        let relayed = jumped.relays(n, i, proposer, value);
+        let n = seat.n;
+        let jumped = self.jumps(round, carried);
+        let relayed = jumped.relays(seat, carried);
         relayed.joins(sender).decides_at(n)
     }
 
     // A suspicion of the process's round from the sender.
-    pub(crate) fn on_s(mut self, n: u8, sender: u8) -> Next
-        requires { (1 ≤ sender) × (sender ≤ limits.greatest_size) }
+    #[tactic(auto, unfolding(crate::specs::Events::on_s, crate::specs::Events::joins_suspicions, crate::specs::Events::goes_to_phase2_if))]
+    pub(crate) fn on_s(mut self, n: Size, sender: Id) -> Next
         ensures { result ≡ events.on_s n sender self }
     {
         let tally = tally::joined(self.suspicions, sender);
@@ -252,28 +304,32 @@ impl Process {
     }
 
     // An F of a round from the sender, to process i of n.
-    pub(crate) fn on_f(self, n: u8, i: u8, sender: u8, round: u8, proposer: u8, value: u32) -> Next
-        requires { (1 ≤ n) × (1 ≤ sender) × (sender ≤ limits.greatest_size) × (self.round ≤ limits.last_round) × (round ≤ limits.last_round) }
-        ensures { result ≡ events.on_f n i sender round proposer value self }
+    #[tactic(auto, unfolding(crate::specs::Events::on_f, crate::specs::Events::changed))]
+    pub(crate) fn on_f(self, seat: Seat, sender: Id, round: u8, carried: Estimate) -> Next
+        requires { (self.round ≤ limits.last_round) × (round ≤ limits.last_round) }
+        ensures { result ≡ events.on_f seat.n seat.i sender round carried.proposer carried.value self }
     {
-        let moved = self.jumps(round, proposer, value).to_phase_2();
-        let adopted = moved.adopts(n, proposer, value);
-        adopted.joins(sender).enters_next_at(n, i)
+        let n = seat.n;
+        let moved = self.jumps(round, carried).to_phase_2();
+        let adopted = moved.adopts(n, carried);
+        adopted.joins(sender).enters_next_at(seat)
     }
 
     // A decision on the value.
+    #[tactic(auto, unfolding(crate::specs::Events::on_decision))]
     pub(crate) fn on_decision(self, value: u32) -> Next
         ensures { result ≡ events.on_decision value self }
     {
         let process = self.decides(value);
         Next {
             process: process,
-            first: Message::Decision { value },
-            second: Message::Nothing,
+            first: Some(Message::Decision { value }),
+            second: None,
         }
     }
 
     // A suspicion of its own.
+    #[tactic(auto, unfolding(crate::specs::Events::on_suspect, crate::specs::Events::marks))]
     pub(crate) fn on_suspect(mut self) -> Next
         ensures { result ≡ events.on_suspect self }
     {
@@ -281,12 +337,13 @@ impl Process {
         self.marked = true;
         Next {
             process: self,
-            first: Message::S { round },
-            second: Message::Nothing,
+            first: Some(Message::S { round }),
+            second: None,
         }
     }
 
     // Down, everything kept.
+    #[tactic(auto, unfolding(crate::specs::Events::on_pause, crate::specs::Events::paused))]
     pub(crate) fn on_pause(self) -> Next
         ensures { result ≡ events.on_pause self }
     {
@@ -296,6 +353,7 @@ impl Process {
     }
 
     // Down, both tallies emptied.
+    #[tactic(auto, unfolding(crate::specs::Events::on_crash, crate::specs::Events::crashed))]
     pub(crate) fn on_crash(self) -> Next
         ensures { result ≡ events.on_crash self }
     {
@@ -307,6 +365,7 @@ impl Process {
     }
 
     // Up, and one recovery more.
+    #[tactic(auto, unfolding(crate::specs::Events::on_recover, crate::specs::Events::recovered))]
     pub(crate) fn on_recover(self) -> Next
         requires { self.recoveries + 1 ≤ limits.most_recoveries }
         ensures { result ≡ events.on_recover self }
@@ -320,14 +379,15 @@ impl Process {
     // ---- what makes a delivery idle, and a suspicion possible
 
     // The process has decided, or is past the round.
+    #[tactic(auto, unfolding(crate::specs::Idle::past_for))]
     pub(crate) fn past_for(self, round: u8) -> bool
         ensures { result ≡ idleness.past_for self round }
     {
         self.decided || round < self.round
     }
 
-    pub(crate) fn idle_e(self, sender: u8, round: u8) -> bool
-        requires { (1 ≤ sender) × (sender ≤ limits.greatest_size) }
+    #[tactic(auto, unfolding(crate::specs::Idle::idle_e, crate::specs::Idle::in_phase))]
+    pub(crate) fn idle_e(self, sender: Id, round: u8) -> bool
         ensures { result ≡ idleness.idle_e self sender round }
     {
         if self.past_for(round) {
@@ -345,8 +405,8 @@ impl Process {
         tally::holds(self.estimates, sender)
     }
 
-    pub(crate) fn idle_s(self, sender: u8, round: u8) -> bool
-        requires { (1 ≤ sender) × (sender ≤ limits.greatest_size) }
+    #[tactic(auto, unfolding(crate::specs::Idle::idle_s))]
+    pub(crate) fn idle_s(self, sender: Id, round: u8) -> bool
         ensures { result ≡ idleness.idle_s self sender round }
     {
         if self.past_for(round) {
@@ -361,8 +421,8 @@ impl Process {
         tally::holds(self.suspicions, sender)
     }
 
-    pub(crate) fn idle_f(self, sender: u8, round: u8) -> bool
-        requires { (1 ≤ sender) × (sender ≤ limits.greatest_size) }
+    #[tactic(auto, unfolding(crate::specs::Idle::idle_f, crate::specs::Idle::in_phase))]
+    pub(crate) fn idle_f(self, sender: Id, round: u8) -> bool
         ensures { result ≡ idleness.idle_f self sender round }
     {
         if self.past_for(round) {
@@ -378,6 +438,7 @@ impl Process {
         tally::holds(heard, sender)
     }
 
+    #[tactic(auto, unfolding(crate::specs::Refusals::may_suspect))]
     pub(crate) fn may_suspect(self) -> bool
         ensures { result ≡ refusals.may_suspect self }
     {
@@ -393,8 +454,8 @@ impl Process {
 
 impl Next {
     // With the sender in the tally of estimates heard.
-    pub(crate) fn joins(mut self, sender: u8) -> Next
-        requires { (1 ≤ sender) × (sender ≤ limits.greatest_size) }
+    #[tactic(auto, unfolding(crate::specs::Events::changed, crate::specs::Events::joins_estimates))]
+    pub(crate) fn joins(mut self, sender: Id) -> Next
         ensures { result ≡ events.changed (events.joins_estimates sender) self }
     {
         let tally = tally::joined(self.process.estimates, sender);
@@ -403,64 +464,57 @@ impl Next {
     }
 
     // At a majority of estimates heard: the decision, and its message.
-    pub(crate) fn decides_at(self, n: u8) -> Next
+    #[tactic(auto, unfolding(crate::specs::Events::decides_at, crate::specs::Events::decides_if))]
+    pub(crate) fn decides_at(self, n: Size) -> Next
         ensures { result ≡ events.decides_at n self }
     {
         let process = self.process;
-        let first = self.first;
         if tally::meets(process.estimates, n) {
             let value = process.value;
-            let decided = process.decides(value);
             return Next {
-                process: decided,
-                first: first,
-                second: Message::Decision { value },
+                process: process.decides(value),
+                first: self.first,
+                second: Some(Message::Decision { value }),
             };
         }
         self
     }
 
     // With the carried estimate, where its proposer is the coordinator.
-    pub(crate) fn adopts(self, n: u8, proposer: u8, value: u32) -> Next
-        requires { 1 ≤ n }
-        ensures { result ≡ events.adopts n proposer value self }
+    #[tactic(auto, unfolding(crate::specs::Events::adopts, crate::specs::Events::adopts_if, crate::specs::Events::changed))]
+    pub(crate) fn adopts(mut self, n: Size, carried: Estimate) -> Next
+        ensures { result ≡ events.adopts n carried.proposer carried.value self }
     {
-        let process = self.process;
-        let sent_before = self.first;
-        let second = self.second;
-        if proposer == coordinator(process.round, n) {
-            let adopted = process.takes(proposer, value);
-            return Next {
-                process: adopted,
-                first: sent_before,
-                second: second,
-            };
+        if carried.proposer == coordinator(self.process.round, n) {
+            self.process = self.process.takes(carried);
         }
         self
     }
 
     // At a majority of F heard: the next round, and the E of its coordinator.
-    pub(crate) fn enters_next_at(self, n: u8, i: u8) -> Next
-        requires { (1 ≤ n) × (self.process.round ≤ limits.last_round) }
-        ensures { result ≡ events.enters_next_at n i self }
+    #[tactic(auto, unfolding(crate::specs::Events::enters_next_at, crate::specs::Events::enters_next_if))]
+    pub(crate) fn enters_next_at(self, seat: Seat) -> Next
+        requires { self.process.round ≤ limits.last_round }
+        ensures { result ≡ events.enters_next_at seat.n seat.i self }
     {
         let process = self.process;
-        let first = self.first;
-        if tally::meets(process.estimates, n) {
+        if tally::meets(process.estimates, seat.n) {
             let round = process.round + 1;
-            let value = process.value;
-            let entered = process.takes(i, value).enters(round);
-            let second = opens(n, i, round, value);
+            let own = Estimate {
+                proposer: seat.i.number(),
+                value: process.value,
+            };
             return Next {
-                process: entered,
-                first: first,
-                second: second,
+                process: process.takes(own).enters(round),
+                first: self.first,
+                second: seat.opens(round, process.value),
             };
         }
         self
     }
 
     // Cut: the record is stored, nothing is handed over, and the process crashes.
+    #[tactic(auto, unfolding(crate::specs::Events::cut_if))]
     pub(crate) fn cut_if(self, cut: bool) -> Next
         ensures { result ≡ events.cut_if cut self }
     {
@@ -470,21 +524,5 @@ impl Next {
         } else {
             self
         }
-    }
-}
-
-// The E with which process i opens a round, where it is the coordinator.
-pub(crate) fn opens(n: u8, i: u8, round: u8, value: u32) -> Message
-    requires { 1 ≤ n }
-    ensures { result ≡ events.opens n i round value }
-{
-    if i == coordinator(round, n) {
-        Message::E {
-            round,
-            proposer: i,
-            value,
-        }
-    } else {
-        Message::Nothing
     }
 }

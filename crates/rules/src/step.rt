@@ -41,11 +41,10 @@ pub enum Step {
     },
 }
 
-// What a step answers: idle; applied, with how many messages were handed over, how many of them again, their entry sent before, and whether the process decided;
-// or refused, with the number.
-#[derive(Clone, Copy)]
+// What a step answers that is not refused: idle; or applied, with how many messages were handed over, how many of them again, their entry sent before,
+// and whether the process decided. Document 01 has a word for both, so that this is no option.
+#[derive(Clone, Copy, PartialEq, Eq, Debug)]
 pub enum Answer {
     Idle,
     Applied { sent: u8, again: u8, decided: bool },
-    Refused(u8),
 }

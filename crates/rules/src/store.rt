@@ -1,19 +1,29 @@
 // The message store: the places of the messages, their entries, and handing over, its only writer beside the clearing at a start.
 // Beside it stands a second store: the depth of each message, at the same place.
-ghost use Rattle.std.specs.Prelude.{◌≡◌, ◌≤◌, ◌<◌, length, get_or, set};
+ghost use Rattle.std.specs.Prelude.{◌≡◌, ◌≤◌, ◌<◌, length, get_or, set, Some};
 ghost use Rattle.rules.specs.Limits as limits;
 ghost use Rattle.rules.specs.Store as stores;
 ghost use Rattle.rules.specs.Depths as dates;
+ghost use Rattle.rules.specs.Tally.{bit_of};
 ghost use Rattle.rules.specs.Private as private;
 
 use crate::group::Group;
-use crate::process::{Message, Process};
+use crate::process::{Estimate, Message, Next, Process};
+use crate::size::Id;
 
-// Where a message stands in the store and with which entry; nowhere where there is none.
+// The kinds of messages that have a round; the value of each as a number is its place among the three of a round and a process.
 #[derive(Clone, Copy)]
-pub enum Spot {
-    Nowhere,
-    At(usize, u64),
+pub enum Kind {
+    E = 0,
+    S = 1,
+    F = 2,
+}
+
+// Where a message stands in the store, and its entry.
+#[derive(Clone, Copy)]
+pub struct Spot {
+    pub place: usize,
+    pub entry: u64,
 }
 
 // How many messages were handed over, and how many of them again: their entry was sent before.
@@ -52,14 +62,8 @@ impl Store {
         Store::VALUES
     }
 
-    // The kinds of messages that have a round, and how many they are.
+    // How many kinds of messages have a round.
     pub(crate) const KINDS: usize = 3;
-
-    pub(crate) const E: usize = 0;
-
-    pub(crate) const S: usize = 1;
-
-    pub(crate) const F: usize = 2;
 
     // The constant is the definitions' limit.
     pub(crate) fn length() -> usize
@@ -69,19 +73,21 @@ impl Store {
     }
 
     // Where the message of a round, a sender and a kind stands.
-    pub(crate) fn slot(round: u8, sender: u8, kind: usize) -> usize
-        requires { (1 ≤ sender) × (sender ≤ limits.greatest_size) × (kind ≤ 2) }
-        ensures { result ≡ stores.slot round sender kind }
+    #[tactic(auto, unfolding(crate::specs::Private::kind_of))]
+    pub(crate) fn slot(round: u8, sender: Id, kind: Kind) -> usize
+        ensures is { result ≡ stores.slot round sender (private.kind_of kind) }
+        ensures within { round ≤ limits.last_round → result < limits.store_length }
     {
-        (round as usize * Group::GREATEST + (sender - 1) as usize) * Store::KINDS + kind
+        (round as usize * Group::GREATEST + (sender.number() - 1) as usize) * Store::KINDS
+            + kind as usize
     }
 
     // Where the decision of a sender stands.
-    pub(crate) fn decision_slot(sender: u8) -> usize
-        requires { (1 ≤ sender) × (sender ≤ limits.greatest_size) }
-        ensures { result ≡ stores.decision_slot sender }
+    pub(crate) fn decision_slot(sender: Id) -> usize
+        ensures is { result ≡ stores.decision_slot sender }
+        ensures within { result < limits.store_length }
     {
-        Store::LENGTH - Group::GREATEST + (sender - 1) as usize
+        Store::LENGTH - Group::GREATEST + (sender.number() - 1) as usize
     }
 
     // The entry of an estimate.
@@ -91,12 +97,15 @@ impl Store {
         (proposer as u64) * Store::VALUES + (value as u64)
     }
 
-    // The proposer of an entry that names one of 1..16, and the value of any entry.
-    pub(crate) fn proposer_of(entry: u64) -> u8
+    // The estimate of an entry that names one of 1..16, and the value of any entry.
+    pub(crate) fn estimate_of(entry: u64) -> Estimate
         requires { stores.proposer_of entry ≤ limits.greatest_size }
-        ensures { result ≡ stores.proposer_of entry }
+        ensures { (result.proposer ≡ stores.proposer_of entry) × (result.value ≡ stores.value_of entry) }
     {
-        (entry / Store::VALUES) as u8
+        Estimate {
+            proposer: (entry / Store::VALUES) as u8,
+            value: Store::value_of(entry),
+        }
     }
 
     pub(crate) fn value_of(entry: u64) -> u32
@@ -105,93 +114,90 @@ impl Store {
         (entry % Store::VALUES) as u32
     }
 
-    // Writes an entry, and answers 1 where it was sent before; where it was not, the message gets the depth.
-    pub(crate) fn write(
-        store: &mut [u64],
-        depths: &mut [u16],
-        depth: u16,
-        at: usize,
-        entry: u64,
-    ) -> u8
-        requires { (at < length store.old) × (at < length depths.old) }
-        ensures { (store.new ≡ set store.old at entry) × (depths.new ≡ dates.dated_at at depth store.old depths.old) × (result ≡ stores.sent_bit (get_or store.old at 0)) }
+    // Writes an entry, and answers whether it was sent before; where it was not, the message gets the depth.
+    #[tactic(auto, unfolding(crate::specs::Depths::dated_if))]
+    pub(crate) fn write(store: &mut [u64], depths: &mut [u16], depth: u16, spot: Spot) -> bool
+        requires { (spot.place < length store.old) × (spot.place < length depths.old) }
+        ensures { (store.new ≡ set store.old spot.place spot.entry) × (depths.new ≡ dates.dated_at spot.place depth store.old depths.old) × (bit_of result ≡ stores.sent_bit (get_or store.old spot.place 0)) }
     {
-        let old = store[at];
-        store[at] = entry;
+        let old = store[spot.place];
+        store[spot.place] = spot.entry;
         if old != 0 {
-            return 1;
+            return true;
         }
-        depths[at] = depth;
-        0
+        depths[spot.place] = depth;
+        false
     }
 
     // Where a message of process i stands, and its entry.
-    pub(crate) fn spot(i: u8, message: Message) -> Spot
-        requires { (1 ≤ i) × (i ≤ limits.greatest_size) }
-        ensures { result ≡ private.spot_of i message }
+    #[tactic(auto, unfolding(crate::specs::Store::place_of, crate::specs::Store::entry_for, crate::specs::Private::kind_of))]
+    pub(crate) fn spot(i: Id, message: Message) -> Spot
+        ensures is { result ≡ private.spot_of i message }
+        ensures within { stores.message_round (Some message) ≤ limits.last_round → result.place < limits.store_length }
     {
         match message {
-            Message::Nothing => Spot::Nowhere,
             Message::E {
                 round,
                 proposer,
                 value,
-            } => Spot::At(
-                Store::slot(round, i, Store::E),
-                Store::entry_of(proposer, value),
-            ),
-            Message::S { round } => {
-                Spot::At(Store::slot(round, i, Store::S), Store::entry_of(i, 0))
-            }
+            } => Spot {
+                place: Store::slot(round, i, Kind::E),
+                entry: Store::entry_of(proposer, value),
+            },
+            Message::S { round } => Spot {
+                place: Store::slot(round, i, Kind::S),
+                entry: Store::entry_of(i.number(), 0),
+            },
             Message::F {
                 round,
                 proposer,
                 value,
-            } => Spot::At(
-                Store::slot(round, i, Store::F),
-                Store::entry_of(proposer, value),
-            ),
-            Message::Decision { value } => {
-                Spot::At(Store::decision_slot(i), Store::entry_of(i, value))
-            }
+            } => Spot {
+                place: Store::slot(round, i, Kind::F),
+                entry: Store::entry_of(proposer, value),
+            },
+            Message::Decision { value } => Spot {
+                place: Store::decision_slot(i),
+                entry: Store::entry_of(i.number(), value),
+            },
         }
     }
 
     // Process i hands a message over at a depth, if there is one.
+    #[tactic(auto, unfolding(crate::specs::Private::spot_of, crate::specs::Store::hand_over, crate::specs::Depths::dated, crate::specs::Store::one, crate::specs::Store::repeats))]
     pub(crate) fn hand_over(
         store: &mut [u64],
         depths: &mut [u16],
         depth: u16,
-        i: u8,
-        message: Message,
+        i: Id,
+        message: Option<Message>,
     ) -> Traffic
-        requires { (1 ≤ i) × (i ≤ limits.greatest_size) × (stores.message_round message ≤ limits.last_round) × (limits.store_length ≤ length store.old) × (limits.store_length ≤ length depths.old) }
+        requires { (stores.message_round message ≤ limits.last_round) × (limits.store_length ≤ length store.old) × (limits.store_length ≤ length depths.old) }
         ensures { private.HandsOver i message depth store.old depths.old store.new depths.new result }
     {
-        let spot = Store::spot(i, message);
-        match spot {
-            Spot::Nowhere => Traffic { sent: 0, again: 0 },
-            Spot::At(at, entry) => {
-                let again = Store::write(store, depths, depth, at, entry);
-                Traffic { sent: 1, again }
-            }
+        let Some(message) = message else {
+            return Traffic { sent: 0, again: 0 };
+        };
+        let again = Store::write(store, depths, depth, Store::spot(i, message));
+        Traffic {
+            sent: 1,
+            again: again as u8,
         }
     }
 
-    // Process i hands two messages over at a depth, the first first.
+    // Process i hands the messages of its next record over at a depth, the first first.
     pub(crate) fn hand_over_both(
         store: &mut [u64],
         depths: &mut [u16],
         depth: u16,
-        i: u8,
-        first: Message,
-        second: Message,
+        i: Id,
+        next: Next,
     ) -> Traffic
-        requires { (1 ≤ i) × (i ≤ limits.greatest_size) × (stores.message_round first ≤ limits.last_round) × (stores.message_round second ≤ limits.last_round) × (limits.store_length ≤ length store.old) × (limits.store_length ≤ length depths.old) }
-        ensures { private.HandsOverBoth i first second depth store.old depths.old store.new depths.new result }
+        requires { (stores.message_round next.first ≤ limits.last_round) × (stores.message_round next.second ≤ limits.last_round) × (limits.store_length ≤ length store.old) × (limits.store_length ≤ length depths.old) }
+        ensures { private.HandsOverBoth i next.first next.second depth store.old depths.old store.new depths.new result }
     {
-        let one = Store::hand_over(store, depths, depth, i, first);
-        let two = Store::hand_over(store, depths, depth, i, second);
+        let one = Store::hand_over(store, depths, depth, i, next.first);
+        let two = Store::hand_over(store, depths, depth, i, next.second);
         Traffic {
             sent: one.sent + two.sent,
             again: one.again + two.again,
@@ -199,15 +205,12 @@ impl Store {
     }
 
     // Clears the entries and the depths, and nothing past them.
+    #[tactic(auto, unfolding(crate::specs::Store::cleared))]
     pub(crate) fn clear(store: &mut [u64], depths: &mut [u16])
         requires { (limits.store_length ≤ length store.old) × (limits.store_length ≤ length depths.old) }
         ensures { (store.new ≡ stores.cleared limits.store_length store.old) × (depths.new ≡ stores.cleared limits.store_length depths.old) }
     {
-        let mut at: usize = 0;
-        while at < Store::LENGTH {
-            store[at] = 0;
-            depths[at] = 0;
-            at += 1;
-        }
+        store[..Store::LENGTH].fill(0);
+        depths[..Store::LENGTH].fill(0);
     }
 }

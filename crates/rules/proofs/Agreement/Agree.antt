@@ -1,4 +1,5 @@
 -- Agreement and validity: the start has the invariant, each step keeps it, and it gives both. Assumes nothing.
+use Rattle.std.specs.Prelude.{Some}
 use mathlib.Core.Path.{◌≡◌, refl, sym, ap, ap₂, ◌∙◌, subst}
 use mathlib.Core.List.{List}
 use mathlib.Core.Option.{some}
@@ -81,7 +82,7 @@ module _ (vs l : List ℕ) (b : Begins vs l) where
   unfolding opened message_round fresh
   start-inv =
       subst Inv
-      (sym (view-hand 1 (cleared store_length l) (omega arith) (omega arith) room vs group (first_message (get_or vs 0 0)) (omega arith)))
+      (sym (view-hand 1 (cleared store_length l) (omega arith) (omega arith) room vs group (Some (first_message (get_or vs 0 0))) (omega arith)))
       (subst (λ (e : ℕ). Inv (put_e before 0 1 e)) (ap (λ (q : Proc). q.est) (record_is 1 (omega arith) some-process))
       (started before nothing-sent some-process))
     where

@@ -1,4 +1,5 @@
 -- A state of a run as the safety proof sees it: a record outside 1..16 is blank, and an entry outside rounds 0 to 63 or processes 1..16 is 0. Assumes nothing.
+use Rattle.std.specs.Prelude.{Option as Optional, Some, None}
 use mathlib.Core.Path.{◌≡◌, refl, sym, ap, ◌∙◌}
 use mathlib.Core.Bool.{Bool, true, false, ◌&&◌}
 use mathlib.Core.Option.{Option, some, none}
@@ -14,12 +15,13 @@ use Rattle.rules.specs.declared.group.Group.{Group}
 use Rattle.rules.specs.declared.process.Process.{Process}
 use Rattle.rules.specs.declared.process.Next.{Next}
 use Rattle.rules.specs.declared.process.Message.{Message}
-use Rattle.rules.specs.declared.process.Message.TheVariants.{Nothing, E, S, F, Decision}
+use Rattle.rules.specs.declared.process.Message.TheVariants.{E, S, F, Decision}
 use Rattle.rules.specs.Limits.{greatest_size, last_round, store_length, majority, among}
 use Rattle.rules.specs.Tally.{holds, joined, meets, count}
 use Rattle.rules.specs.Layout.{process_at, with_process, Sized}
-use Rattle.rules.specs.Records.{record_if, record_of}
+use Rattle.rules.specs.Layout.{record_if, record_of}
 use Rattle.rules.specs.Store.{slot, decision_slot, kind_e, kind_f, entry_of, place_of, message_round, entry_for, hand_over}
+use Rattle.rules.proofs.Laws.Store.{place_by}
 use Rattle.rules.specs.Step.{hand_overs}
 use Rattle.rules.proofs.Laws.Bool.{and_left, and_right, and_both}
 use Rattle.rules.proofs.Laws.Row.{among-true, among_in}
@@ -205,113 +207,113 @@ module _ (g : Group) (i : ℕ) (p : Process) (sized : Sized g) (low : 1 ≤ i) (
 -- ---- a message handed over
 
 -- in the view: an S is not seen
-abbrev pub hand : View → ℕ → Message → View
-hand A i Nothing = A
-hand A i (E r q v) = put_e A r i (entry_of q v)
-hand A i (S r) = A
-hand A i (F r q v) = put_f A r i (entry_of q v)
-hand A i (Decision v) = put_d A i (entry_of i v)
+abbrev pub hand : View → ℕ → Optional Message → View
+hand A i None = A
+hand A i (Some (E r q v)) = put_e A r i (entry_of q v)
+hand A i (Some (S r)) = A
+hand A i (Some (F r q v)) = put_f A r i (entry_of q v)
+hand A i (Some (Decision v)) = put_d A i (entry_of i v)
 
 -- both messages of an event
 abbrev pub hands : View → ℕ → Next → View
 hands A i x = hand (hand A i x.first) i x.second
 
 -- the group's size stays
-pub hand-n : (A : View) (i : ℕ) (m : Message) → (hand A i m).n ≡ A.n
-hand-n A i Nothing = refl
-hand-n A i (E r q v) = refl
-hand-n A i (S r) = refl
-hand-n A i (F r q v) = refl
-hand-n A i (Decision v) = refl
+pub hand-n : (A : View) (i : ℕ) (m : Optional Message) → (hand A i m).n ≡ A.n
+hand-n A i None = refl
+hand-n A i (Some (E r q v)) = refl
+hand-n A i (Some (S r)) = refl
+hand-n A i (Some (F r q v)) = refl
+hand-n A i (Some (Decision v)) = refl
 
 module _ (i : ℕ) (l : List ℕ) (low : 1 ≤ i) (high : i ≤ greatest_size) (long : store_length ≤ length l) where
   -- an entry that is not the message's
-  entry_kept : (m : Message) (k s p : ℕ) → k ≤ 2 → (Place s p k → slot s p k ≢ place_of i m) → entry (hand_over i m l) k s p ≡ entry l k s p
+  entry_kept : (m : Optional Message) (k s p : ℕ) → k ≤ 2 → (Place s p k → slot s p k ≢ place_by i m) → entry (hand_over i m l) k s p ≡ entry l k s p
   entry_kept m k s p z ne = entry-same (hand_over i m l) l k s p z (λ h. hand_over-other i m l (slot s p k) (ne h))
 
-  verdict-kept : (m : Message) (p : ℕ) → (1 ≤ p → decision_slot p ≢ place_of i m) → verdict (hand_over i m l) p ≡ verdict l p
+  verdict-kept : (m : Optional Message) (p : ℕ) → (1 ≤ p → decision_slot p ≢ place_by i m) → verdict (hand_over i m l) p ≡ verdict l p
   verdict-kept m p ne = verdict-same (hand_over i m l) l p (λ h. hand_over-other i m l (decision_slot p) (ne h))
 
   module _ (vs : List ℕ) (g : Group) where
-    view_of : (m : Message) (A : View) → g.n ≡ A.n → ((p : ℕ) → seen (record_of g p) ≡ A.proc p)
+    view_of : (m : Optional Message) (A : View) → g.n ≡ A.n → ((p : ℕ) → seen (record_of g p) ≡ A.proc p)
         → ((s p : ℕ) → entry (hand_over i m l) kind_e s p ≡ A.E s p) → ((s p : ℕ) → entry (hand_over i m l) kind_f s p ≡ A.F s p)
         → ((p : ℕ) → verdict (hand_over i m l) p ≡ A.D p) → ((p : ℕ) → get_or vs (p - 1) 0 ≡ A.first p) → view vs g (hand_over i m l) ≡ A
     view_of m A = view-path (view vs g (hand_over i m l)) A
 
-    pub view-hand : (m : Message) → message_round m ≤ last_round → view vs g (hand_over i m l) ≡ hand (view vs g l) i m
+    pub view-hand : (m : Optional Message) → message_round m ≤ last_round → view vs g (hand_over i m l) ≡ hand (view vs g l) i m
     unfolding message_round place_of entry_for hand_over
-    view-hand Nothing le = refl
-    view-hand (E r q v) le =
-        view_of (E r q v) (put_e (view vs g l) r i (entry_of q v)) refl (λ p. refl)
-        (upd2-ext (entry (hand_over i (E r q v) l) kind_e) (entry l kind_e) r i (entry_of q v) own (λ s p ne. entry_kept (E r q v) kind_e s p (omega arith) (away s p ne)))
-        (λ s p. entry_kept (E r q v) kind_f s p (omega arith) (apart s p)) (λ p. verdict-kept (E r q v) p (decided p)) (λ p. refl)
+    view-hand None le = refl
+    view-hand (Some (E r q v)) le =
+        view_of (Some (E r q v)) (put_e (view vs g l) r i (entry_of q v)) refl (λ p. refl)
+        (upd2-ext (entry (hand_over i (Some (E r q v)) l) kind_e) (entry l kind_e) r i (entry_of q v) own (λ s p ne. entry_kept (Some (E r q v)) kind_e s p (omega arith) (away s p ne)))
+        (λ s p. entry_kept (Some (E r q v)) kind_f s p (omega arith) (apart s p)) (λ p. verdict-kept (Some (E r q v)) p (decided p)) (λ p. refl)
       where
-        own : entry (hand_over i (E r q v) l) kind_e r i ≡ entry_of q v
+        own : entry (hand_over i (Some (E r q v)) l) kind_e r i ≡ entry_of q v
         own =
-            entry_at (hand_over i (E r q v) l) kind_e r i le low high
-            ∙ hand_over-own i (E r q v) l tt (omega (arith, place-lt i (E r q v) high le))
+            entry_at (hand_over i (Some (E r q v)) l) kind_e r i le low high
+            ∙ hand_over-own i (Some (E r q v)) l tt (omega (arith, place-lt i (Some (E r q v)) high le))
 
-        away : (s p : ℕ) → ¬ ((r ≡ s) × (i ≡ p)) → Place s p kind_e → slot s p kind_e ≢ place_of i (E r q v)
+        away : (s p : ℕ) → ¬ ((r ≡ s) × (i ≡ p)) → Place s p kind_e → slot s p kind_e ≢ place_by i (Some (E r q v))
         away s p ne h z =
             let same = slot_same r i kind_e s p kind_e (record { round = le; low = low; high = high; kind = omega arith }) h (sym z) in
             ne (same.0, same.1)
 
-        apart : (s p : ℕ) → Place s p kind_f → slot s p kind_f ≢ place_of i (E r q v)
+        apart : (s p : ℕ) → Place s p kind_f → slot s p kind_f ≢ place_by i (Some (E r q v))
         apart s p h z = omega arith
 
-        decided : (p : ℕ) → 1 ≤ p → decision_slot p ≢ place_of i (E r q v)
+        decided : (p : ℕ) → 1 ≤ p → decision_slot p ≢ place_by i (Some (E r q v))
         decided p h z = omega arith
-    view-hand (S r) le =
-        view_of (S r) (view vs g l) refl (λ p. refl) (λ s p. entry_kept (S r) kind_e s p (omega arith) (first s p))
-        (λ s p. entry_kept (S r) kind_f s p (omega arith) (second s p)) (λ p. verdict-kept (S r) p (decided p)) (λ p. refl)
+    view-hand (Some (S r)) le =
+        view_of (Some (S r)) (view vs g l) refl (λ p. refl) (λ s p. entry_kept (Some (S r)) kind_e s p (omega arith) (first s p))
+        (λ s p. entry_kept (Some (S r)) kind_f s p (omega arith) (second s p)) (λ p. verdict-kept (Some (S r)) p (decided p)) (λ p. refl)
       where
-        first : (s p : ℕ) → Place s p kind_e → slot s p kind_e ≢ place_of i (S r)
+        first : (s p : ℕ) → Place s p kind_e → slot s p kind_e ≢ place_by i (Some (S r))
         first s p h z = omega arith
 
-        second : (s p : ℕ) → Place s p kind_f → slot s p kind_f ≢ place_of i (S r)
+        second : (s p : ℕ) → Place s p kind_f → slot s p kind_f ≢ place_by i (Some (S r))
         second s p h z = omega arith
 
-        decided : (p : ℕ) → 1 ≤ p → decision_slot p ≢ place_of i (S r)
+        decided : (p : ℕ) → 1 ≤ p → decision_slot p ≢ place_by i (Some (S r))
         decided p h z = omega arith
-    view-hand (F r q v) le =
-        view_of (F r q v) (put_f (view vs g l) r i (entry_of q v)) refl (λ p. refl)
-        (λ s p. entry_kept (F r q v) kind_e s p (omega arith) (apart s p))
-        (upd2-ext (entry (hand_over i (F r q v) l) kind_f) (entry l kind_f) r i (entry_of q v) own (λ s p ne. entry_kept (F r q v) kind_f s p (omega arith) (away s p ne)))
-        (λ p. verdict-kept (F r q v) p (decided p)) (λ p. refl)
+    view-hand (Some (F r q v)) le =
+        view_of (Some (F r q v)) (put_f (view vs g l) r i (entry_of q v)) refl (λ p. refl)
+        (λ s p. entry_kept (Some (F r q v)) kind_e s p (omega arith) (apart s p))
+        (upd2-ext (entry (hand_over i (Some (F r q v)) l) kind_f) (entry l kind_f) r i (entry_of q v) own (λ s p ne. entry_kept (Some (F r q v)) kind_f s p (omega arith) (away s p ne)))
+        (λ p. verdict-kept (Some (F r q v)) p (decided p)) (λ p. refl)
       where
-        own : entry (hand_over i (F r q v) l) kind_f r i ≡ entry_of q v
+        own : entry (hand_over i (Some (F r q v)) l) kind_f r i ≡ entry_of q v
         own =
-            entry_at (hand_over i (F r q v) l) kind_f r i le low high
-            ∙ hand_over-own i (F r q v) l tt (omega (arith, place-lt i (F r q v) high le))
+            entry_at (hand_over i (Some (F r q v)) l) kind_f r i le low high
+            ∙ hand_over-own i (Some (F r q v)) l tt (omega (arith, place-lt i (Some (F r q v)) high le))
 
-        away : (s p : ℕ) → ¬ ((r ≡ s) × (i ≡ p)) → Place s p kind_f → slot s p kind_f ≢ place_of i (F r q v)
+        away : (s p : ℕ) → ¬ ((r ≡ s) × (i ≡ p)) → Place s p kind_f → slot s p kind_f ≢ place_by i (Some (F r q v))
         away s p ne h z =
             let same = slot_same r i kind_f s p kind_f (record { round = le; low = low; high = high; kind = omega arith }) h (sym z) in
             ne (same.0, same.1)
 
-        apart : (s p : ℕ) → Place s p kind_e → slot s p kind_e ≢ place_of i (F r q v)
+        apart : (s p : ℕ) → Place s p kind_e → slot s p kind_e ≢ place_by i (Some (F r q v))
         apart s p h z = omega arith
 
-        decided : (p : ℕ) → 1 ≤ p → decision_slot p ≢ place_of i (F r q v)
+        decided : (p : ℕ) → 1 ≤ p → decision_slot p ≢ place_by i (Some (F r q v))
         decided p h z = omega arith
-    view-hand (Decision v) le =
-        view_of (Decision v) (put_d (view vs g l) i (entry_of i v)) refl (λ p. refl)
-        (λ s p. entry_kept (Decision v) kind_e s p (omega arith) (first s p)) (λ s p. entry_kept (Decision v) kind_f s p (omega arith) (second s p))
-        (λ p. sym (upd-all (λ (j d : ℕ). d ≡ verdict (hand_over i (Decision v) l) j) (verdict l) i (entry_of i v) (sym own) (λ j ne. sym (verdict-kept (Decision v) j (away j ne))) p))
+    view-hand (Some (Decision v)) le =
+        view_of (Some (Decision v)) (put_d (view vs g l) i (entry_of i v)) refl (λ p. refl)
+        (λ s p. entry_kept (Some (Decision v)) kind_e s p (omega arith) (first s p)) (λ s p. entry_kept (Some (Decision v)) kind_f s p (omega arith) (second s p))
+        (λ p. sym (upd-all (λ (j d : ℕ). d ≡ verdict (hand_over i (Some (Decision v)) l) j) (verdict l) i (entry_of i v) (sym own) (λ j ne. sym (verdict-kept (Some (Decision v)) j (away j ne))) p))
         (λ p. refl)
       where
-        own : verdict (hand_over i (Decision v) l) i ≡ entry_of i v
+        own : verdict (hand_over i (Some (Decision v)) l) i ≡ entry_of i v
         own =
-            verdict-at (hand_over i (Decision v) l) i low high
-            ∙ hand_over-own i (Decision v) l tt (omega (arith, place-lt i (Decision v) high le))
+            verdict-at (hand_over i (Some (Decision v)) l) i low high
+            ∙ hand_over-own i (Some (Decision v)) l tt (omega (arith, place-lt i (Some (Decision v)) high le))
 
-        away : (p : ℕ) → i ≢ p → 1 ≤ p → decision_slot p ≢ place_of i (Decision v)
+        away : (p : ℕ) → i ≢ p → 1 ≤ p → decision_slot p ≢ place_by i (Some (Decision v))
         away p ne h z = ne (omega arith)
 
-        first : (s p : ℕ) → Place s p kind_e → slot s p kind_e ≢ place_of i (Decision v)
+        first : (s p : ℕ) → Place s p kind_e → slot s p kind_e ≢ place_by i (Some (Decision v))
         first s p h z = omega arith
 
-        second : (s p : ℕ) → Place s p kind_f → slot s p kind_f ≢ place_of i (Decision v)
+        second : (s p : ℕ) → Place s p kind_f → slot s p kind_f ≢ place_by i (Some (Decision v))
         second s p h z = omega arith
 
 -- the view after process i became x's record and handed its messages over

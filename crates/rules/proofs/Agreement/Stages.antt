@@ -1,4 +1,5 @@
 -- What an event keeps, with its messages handed over and without them; and the stages that more than one event has: a jump, phase 2, a crash, a cut. Assumes nothing.
+use Rattle.std.specs.Prelude.{Option, None}
 use mathlib.Core.Path.{◌≡◌, refl, sym, subst}
 use mathlib.Core.Bool.{Bool, true, false}
 use Prim.Native.Nat.{ℕ, ◌^◌, ◌≤◌, ◌<◌}
@@ -9,7 +10,6 @@ use borrow.Author.Tests.{ltb-true, ltb-false}
 use Rattle.rules.specs.declared.process.Process.{Process}
 use Rattle.rules.specs.declared.process.Next.{Next}
 use Rattle.rules.specs.declared.process.Message.{Message}
-use Rattle.rules.specs.declared.process.Message.TheVariants.{Nothing}
 use Rattle.rules.specs.Store.{entry_of, proposer_of, value_of}
 use Rattle.rules.specs.Events.{takes, enters, second_phase, crashed, quiet, jumps_if, jumps, goes_to_phase2, on_crash, cut_if}
 use Rattle.rules.proofs.Laws.Store.{entry-parts}
@@ -45,14 +45,14 @@ pub record Half (A : View) (i : ℕ) (x : Next) : Type 0 where
   pub part : Inv (set_p A i (seen x.process))
   pub small : x.process.value < 2 ^ 32
   pub heard : x.process.estimates < 2 ^ A.n
-  pub silent : x.second ≡ Nothing
+  pub silent : x.second ≡ None
 
 -- at the end
 pub half-kept : (A : View) (i : ℕ) (x : Next) → Half A i x → Kept A i x
 half-kept A i x h =
     record {
       all =
-          subst (λ (m : Message). Inv (set_p (hand (hand A i x.first) i m) i (seen x.process))) (sym h.silent) h.all;
+          subst (λ (m : Option Message). Inv (set_p (hand (hand A i x.first) i m) i (seen x.process))) (sym h.silent) h.all;
       part = h.part;
       small = h.small;
     }

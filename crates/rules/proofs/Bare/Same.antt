@@ -4,7 +4,6 @@ use mathlib.Core.Bool.{Bool, true, false, ◌&&◌, not}
 use mathlib.Core.List.{List}
 use mathlib.Core.Logic.{◌≢◌}
 use Prim.Native.Nat.{ℕ, zero, suc, ◌≤◌}
-use native.Mathlib.Nat.{le_trans}
 use native.Mathlib.Omega.{arith}
 use lib.Dec.{ltb}
 use lib.ListN.{length, get_or}
@@ -28,7 +27,7 @@ use Rattle.rules.proofs.Bare.Run.{forgotten}
 use Rattle.rules.proofs.Bare.Run as run
 use Rattle.rules.proofs.Laws.Sound.{Whole, Sound, Fine, course-fine}
 use Rattle.rules.proofs.Laws.Passing.{deep-sound, deep-facts, facts-deep}
-use Rattle.rules.proofs.Laws.Column.{process-forgets, depth-forgets, forget-with, forget-deep}
+use Rattle.rules.proofs.Laws.Group.{process-forgets, depth-forgets, forget-with, forget-deep}
 use Rattle.rules.proofs.Laws.Course.{numbers-refuse, held-course, taker-low, place-low}
 
 -- the rows of the table do not look past 3 and 4 where one of them refuses
@@ -54,7 +53,7 @@ module _ (a : State) (h : WithinLimits a) where
         low = f.low;
         high = f.high;
         each = λ i lo hi.
-            subst (λ (p : Process). Whole a.group.n p) (sym (process-forgets a.group i h.sized (le_trans hi f.high))) (f.each i lo hi);
+            subst (λ (p : Process). Whole a.group.n p) (sym (process-forgets a.group i)) (f.each i lo hi);
       }
 
   forgotten-ready : Ready (forgetting a.group) a.store a.depths
@@ -64,7 +63,7 @@ module _ (a : State) (h : WithinLimits a) where
         deep_long = h.ready.deep_long;
         sound =
             facts-deep (forgetting a.group) forgotten-sound
-            (λ i lo hi. omega (arith, depth-forgets a.group i h.sized lo (le_trans hi forgotten-sound.high)));
+            (λ i lo hi. omega (arith, depth-forgets a.group i));
       }
 
   -- no delivered message is too deep
@@ -97,7 +96,7 @@ module _ (a : State) (h : WithinLimits a) where
       go : (k : ℕ) → number_rows a.group.n s ≡ k → course a.group a.store a.depths s ≡ course (forgetting a.group) a.store a.depths s
       go zero z =
           let t = taker-low a.group.n s z in
-          sym (held-course a.group a.store a.depths s h.ready z refl refl refl (process-forgets a.group (taker_of s) h.sized (le_trans t.1 limits-few)))
+          sym (held-course a.group a.store a.depths s h.ready z refl refl refl (process-forgets a.group (taker_of s)))
           ∙ held-course (forgetting a.group) a.store a.depths s forgotten-ready z refl refl refl refl
       go (suc k) z =
           sym (numbers-refuse a.group a.store a.depths s h.ready z (λ b. omega arith))
@@ -120,11 +119,11 @@ settled-forgets g l d k Idles s f = record { group = refl; store = refl; says = 
 settled-forgets g l d k (Refuses n) s f = record { group = refl; store = refl; says = refl }
 settled-forgets g l d k (Takes i x) s f =
     record {
-      group = forget-deep (with_process g i x.process) i k ∙ forget-with g i x.process s f.low f.small;
+      group = forget-deep (with_process g i x.process) i k ∙ forget-with g i x.process;
       store = refl;
       says =
           ap (λ (p : Process). says_applied (sent_by i x) (again_by i x l) (decides_now p x.process))
-          (sym (process-forgets g i s f.small));
+          (sym (process-forgets g i));
     }
 
 module _ (a : State) (h : WithinLimits a) (s : Step) where

@@ -1,11 +1,11 @@
 -- A run with depths: with the depths forgotten it is the run of before; and no depth is above the number of sent entries. Assumes nothing.
+use Rattle.std.specs.Prelude.{Option, Some}
 use mathlib.Core.Path.{◌≡◌, refl, sym, ap, ap₂, subst, ◌∙◌}
 use mathlib.Core.Bool.{Bool, true, false}
 use mathlib.Core.List.{List, [], ◌∷◌, ◌++◌}
 use mathlib.Core.Logic.{◌≢◌}
 use Prim.Native.Nat.{ℕ, zero, suc, ◌+◌, ◌≤◌, ◌<◌}
 use native.Mathlib.Decide.{ℕ_discrete}
-use native.Mathlib.Nat.{le_trans}
 use native.Mathlib.Omega.{arith}
 use lib.ListN.{length, get_or, set}
 use borrow.Author.Tests.{le-ltb}
@@ -26,7 +26,8 @@ use Rattle.rules.proofs.Bare.Run.{State as Bare, forgotten}
 use Rattle.rules.proofs.Bare.Step.{begun}
 use Rattle.rules.specs.Limits.{greatest_size, last_round, store_length}
 use Rattle.rules.specs.Layout.{with_process, depth_at, with_depth, Sized}
-use Rattle.rules.specs.Store.{place_of, message_round, entry_for, hand_over, cleared, sent_in}
+use Rattle.rules.specs.Store.{place_of, message_round, hand_over, cleared, sent_in}
+use Rattle.rules.proofs.Laws.Store.{place_by, entry_by}
 use Rattle.rules.specs.Kinds.{taker_of, slot_of}
 use Rattle.rules.proofs.Bare.Step as base
 use Rattle.rules.specs.Private.{number_rows}
@@ -36,30 +37,30 @@ use Rattle.rules.proofs.Bare.Same.{limits-fine}
 use Rattle.rules.proofs.Bare.Same as same
 use Rattle.rules.proofs.Laws.Store.{IsMessage, place-lt, own, other, hand_over-length, hand_over-new, hand_over-more, opened-sent, cleared-length, cleared-below, cleared-past}
 use Rattle.rules.proofs.Laws.Row.{among_in}
-use Rattle.rules.proofs.Laws.Group.{sized-with, sized-started, started-size}
+use Rattle.rules.proofs.Laws.Group.{sized-with, sized-started}
 use Rattle.rules.proofs.Laws.Sound.{Whole, Sound, sound-facts, Named, Fine, named-entry}
 use Rattle.rules.proofs.Laws.Passing.{facts-deep, course-takes, dating, dated-length, dated-other}
-use Rattle.rules.proofs.Laws.Column.{depth-put, depth-kept, sized-deep, depth-with, process-forgets, forget-started, depth-started}
+use Rattle.rules.proofs.Laws.Group.{depth-put, depth-kept, sized-deep, depth-with, process-forgets, forget-started, depth-started}
 use Rattle.rules.proofs.Laws.Course.{taker-low, place-low}
 use Rattle.rules.proofs.Runs.Basics.{Basic, basic-start, basic-next, start_is}
 use Rattle.rules.proofs.Runs.Sound.{never-two-nor-eleven}
 
 -- ---- one message that is dated
 
-module _ (i : ℕ) (m : Message) (k : ℕ) (l d : List ℕ) where
+module _ (i : ℕ) (m : Option Message) (k : ℕ) (l d : List ℕ) where
   -- it is less than the number of sent entries, where the other depths were and its own is no more
-  module _ (hi : i ≤ greatest_size) (le : message_round m ≤ last_round) (long : store_length ≤ length l) (ne : IsMessage m → entry_for i m ≢ 0) where
+  module _ (hi : i ≤ greatest_size) (le : message_round m ≤ last_round) (long : store_length ≤ length l) (ne : IsMessage m → entry_by i m ≢ 0) where
     dated-bound : (q : ℕ) → store_length ≤ length d → get_or d q 0 + 1 ≤ sent_in l store_length → k ≤ sent_in l store_length
         → get_or (dated i m k l d) q 0 + 1 ≤ sent_in (hand_over i m l) store_length
     dated-bound q room old new =
         dating (λ (e : List ℕ). get_or e q 0 + 1 ≤ sent_in (hand_over i m l) store_length) i m k l d (omega (arith, hand_over-more i m l hi le long ne))
-        (λ is z. go (hand_over-new i m l hi le long ne is z) (ℕ_discrete q (place_of i m)))
+        (λ is z. go (hand_over-new i m l hi le long ne is z) (ℕ_discrete q (place_by i m)))
       where
-        go : sent_in (hand_over i m l) store_length ≡ sent_in l store_length + 1 → Dec (q ≡ place_of i m)
-            → get_or (set d (place_of i m) k) q 0 + 1 ≤ sent_in (hand_over i m l) store_length
+        go : sent_in (hand_over i m l) store_length ≡ sent_in l store_length + 1 → Dec (q ≡ place_by i m)
+            → get_or (set d (place_by i m) k) q 0 + 1 ≤ sent_in (hand_over i m l) store_length
         go more (yes e) =
-            omega (arith, more, ap (λ (p : ℕ). get_or (set d (place_of i m) k) p 0) e, own d (place_of i m) k (omega (arith, place-lt i m hi le)))
-        go more (no other_place) = omega (arith, more, other d (place_of i m) k q other_place)
+            omega (arith, more, ap (λ (p : ℕ). get_or (set d (place_by i m) k) p 0) e, own d (place_by i m) k (omega (arith, place-lt i m hi le)))
+        go more (no other_place) = omega (arith, more, other d (place_by i m) k q other_place)
 
 -- ---- the count of sent entries is at most their number
 
@@ -101,7 +102,7 @@ module _ (vs : List ℕ) (a : State) (h : DeepBasic vs a) where
         low = f.low;
         high = f.high;
         each = λ i lo hi.
-            subst (λ (p : Process). Whole a.group.n p) (process-forgets a.group i h.sized (le_trans hi f.high)) (f.each i lo hi);
+            subst (λ (p : Process). Whole a.group.n p) (process-forgets a.group i) (f.each i lo hi);
       }
 
   -- its depths are within the limits
@@ -172,7 +173,7 @@ module _ (vs : List ℕ) (a : State) (h : DeepBasic vs a) (s : Step) where
       long : store_length ≤ length once
       long = omega (arith, hand_over-length i x.first l, h.basic.long)
 
-      named : (m : Message) → Named a.group.n m → IsMessage m → entry_for i m ≢ 0
+      named : (m : Option Message) → Named a.group.n m → IsMessage m → entry_by i m ≢ 0
       named m = named-entry a.group.n i m f.low
 
       once_more : sent_in l store_length ≤ sent_in once store_length
@@ -201,7 +202,7 @@ module _ (vs : List ℕ) (a : State) (h : DeepBasic vs a) (s : Step) where
           omega (
             arith,
             depth-kept (with_process a.group i x.process) i k j f.low lo ne,
-            depth-with a.group i x.process j f.small,
+            depth-with a.group i x.process j,
             h.processes j lo hi,
             more,
           )
@@ -253,7 +254,7 @@ not-refused-deep vs l d b =
 opened-below : (v : ℕ) (l d : List ℕ) → store_length ≤ length d → (q : ℕ) → q < store_length → get_or (opened_depths v l d) q 0 ≡ 0
 unfolding opened_depths place_of
 opened-below v l d long q lt =
-    dating (λ (e : List ℕ). get_or e q 0 ≡ 0) 1 (first_message v) 0 (cleared store_length l) (cleared store_length d)
+    dating (λ (e : List ℕ). get_or e q 0 ≡ 0) 1 (Some (first_message v)) 0 (cleared store_length l) (cleared store_length d)
     (cleared-below store_length d q lt) (λ is z. go (ℕ_discrete q 0))
   where
     go : Dec (q ≡ 0) → get_or (set (cleared store_length d) 0 0) q 0 ≡ 0
@@ -268,7 +269,7 @@ module _ (vs l d : List ℕ) (b : Begins vs l d) where
   pub start-forgets : forgotten (start_state vs l d) ≡ run.start_state vs l
   unfolding begun
   start-forgets =
-      ap forgotten start-deep ∙ ap (λ (g : Group). record { group = g; store = (begun vs l).store }) (forget-started vs (length vs) b.few)
+      ap forgotten start-deep ∙ ap (λ (g : Group). record { group = g; store = (begun vs l).store }) (forget-started vs (length vs))
       ∙ sym (start_is vs l (bare-begins b))
 
   pub deep-start : DeepBasic vs (start_state vs l d)
@@ -282,13 +283,13 @@ module _ (vs l d : List ℕ) (b : Begins vs l d) where
         deep_long = omega (arith, opened-deep-length, b.deep_long);
         messages = λ q lt. omega (arith, opened-below (get_or vs 0 0) l d b.deep_long q lt, opened-sent (get_or vs 0 0) l b.long);
         processes = λ i lo hi.
-            omega (arith, depth-started vs (length vs) i b.few (omega (arith, started-size vs (length vs), b.few)), hi);
+            omega (arith, depth-started vs (length vs) i, hi);
       })
       start-forgets
     where
       opened-deep-length : length (opened_depths (get_or vs 0 0) l d) ≡ length d
       opened-deep-length =
-          dated-length 1 (first_message (get_or vs 0 0)) 0 (cleared store_length l) (cleared store_length d) ∙ cleared-length store_length d b.deep_long
+          dated-length 1 (Some (first_message (get_or vs 0 0))) 0 (cleared store_length l) (cleared store_length d) ∙ cleared-length store_length d b.deep_long
 
 -- ---- every state of a run
 
@@ -391,4 +392,4 @@ unfolding opened_depths place_of
 past-depths-kept vs l d ss b q le =
     deep-throughout vs (λ (a : State). message_depth a q ≡ get_or d q 0) (λ a s h e. past-step vs a s h q le ∙ e) (start_state vs l d) ss (deep-start vs l d b)
     (ap (λ (a : State). message_depth a q) (start-deep vs l d b)
-    ∙ dated-other 1 (first_message (get_or vs 0 0)) 0 (cleared store_length l) (cleared store_length d) q (omega arith) ∙ cleared-past store_length d q le)
+    ∙ dated-other 1 (Some (first_message (get_or vs 0 0))) 0 (cleared store_length l) (cleared store_length d) q (omega arith) ∙ cleared-past store_length d q le)

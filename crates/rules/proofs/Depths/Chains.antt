@@ -25,7 +25,7 @@ use Rattle.rules.specs.Safety.Chain.{one, more}
 use Rattle.rules.proofs.Laws.Store.{opened-sent}
 use Rattle.rules.proofs.Laws.Sound.{taker-in}
 use Rattle.rules.proofs.Laws.Passing.{DeepPassed}
-use Rattle.rules.proofs.Laws.Column.{depth-started}
+use Rattle.rules.proofs.Laws.Group.{depth-started}
 use Rattle.rules.proofs.Runs.Cases.{never}
 use Rattle.rules.proofs.Runs.Handing.{Addresses, address-lt, addressed}
 use Rattle.rules.proofs.Depths.Basics.{DeepBasic, deep-size, deep-few, deep-next, start-deep, deep-start, deep-throughout, deep-basic, deep_more}
@@ -306,7 +306,7 @@ module _ (vs l d : List ℕ) (b : Begins vs l d) where
       record {
         processes = λ i o ne.
             absurd (ne (ap (λ (c : State). process_depth c i) (start-deep vs l d b)
-            ∙ depth-started vs (length vs) i b.few (le_trans o.high b.few)));
+            ∙ depth-started vs (length vs) i));
         messages = λ t ad ne nz. absurd (nz (omega (arith, (deep-start vs l d b).messages (slot_of t) (address-lt t ad), sent)));
       }
 

@@ -19,7 +19,7 @@ use Rattle.rules.specs.Step.{or_idle, unless_refused, course, settled, stepped}
 use Rattle.rules.specs.Run.{State, start_state, next, after}
 use Rattle.rules.specs.Safety.{at, process_depth, message_depth, says, DownThrough, cut, AboveKept, Link, DepthRecovery, QuietKeepsDepths, CutKeepsDepth}
 use Rattle.rules.proofs.Bare.Step.{begun}
-use Rattle.rules.proofs.Laws.Column.{depth-started}
+use Rattle.rules.proofs.Laws.Group.{depth-started}
 use Rattle.rules.proofs.Runs.Cases.{never}
 use Rattle.rules.proofs.Depths.Basics.{DeepBasic, deep-size, deep-next, start-deep, deep-start, deep-throughout, deep-basic-after, deep-basic}
 use Rattle.rules.proofs.Runs.Carried.{above-blank}
@@ -71,7 +71,7 @@ unfolding begun
 above_kept vs l d ss b i lo hi = (
   above-blank vs l d ss b i lo hi,
   deep-throughout vs (λ (a : State). process_depth a i ≡ 0) (λ a s h e. above-next vs a s i h lo ∙ e) (start_state vs l d) ss (deep-start vs l d b)
-      (ap (λ (a : State). process_depth a i) (start-deep vs l d b) ∙ depth-started vs (length vs) i b.few hi),
+      (ap (λ (a : State). process_depth a i) (start-deep vs l d b) ∙ depth-started vs (length vs) i),
 )
 
 -- ---- steps that deliver nothing

@@ -1,4 +1,5 @@
 -- What one step of a run with depths does to the depth of a process and to the depth of a message. Assumes nothing.
+use Rattle.std.specs.Prelude.{Option, Some, None}
 use mathlib.Core.Path.{◌≡◌, refl, sym, ap, subst, ◌∙◌}
 use mathlib.Core.Bool.{Bool, true, false, ◌&&◌, not}
 use mathlib.Core.List.{List}
@@ -11,7 +12,7 @@ use lib.ListN.{length, get_or, set}
 use borrow.Author.Tests.{eq-eqb}
 use Rattle.rules.specs.declared.group.Group.{Group}
 use Rattle.rules.specs.declared.process.Message.{Message}
-use Rattle.rules.specs.declared.process.Message.TheVariants.{Nothing, E, S, F, Decision}
+use Rattle.rules.specs.declared.process.Message.TheVariants.{E, S, F, Decision}
 use Rattle.rules.specs.declared.process.Next.{Next}
 use Rattle.rules.specs.declared.step.Step.{Step}
 use Rattle.rules.specs.declared.step.Step.TheVariants.{DeliverE, DeliverS, DeliverF, DeliverDecision, Suspect, Pause, Crash, Recover}
@@ -22,7 +23,8 @@ use Rattle.rules.specs.Run.{State, next, after}
 use Rattle.rules.specs.Safety.{process_depth, message_depth, says, Delivers, sender_of, Link}
 use Rattle.rules.specs.Limits.{greatest_size, last_round, store_length}
 use Rattle.rules.specs.Layout.{process_at, with_process, depth_at, with_depth, forgetting}
-use Rattle.rules.specs.Store.{place_of, message_round, entry_for, hand_over, Handed, handed}
+use Rattle.rules.specs.Store.{place_of, message_round, hand_over, Handed, handed}
+use Rattle.rules.proofs.Laws.Store.{place_by, entry_by}
 use Rattle.rules.specs.Events.{on_crash, cut_if}
 use Rattle.rules.specs.Kinds.{taker_of, delivers, slot_of, is_cut, event_of}
 use Rattle.rules.specs.Idle.{idle}
@@ -30,7 +32,7 @@ use Rattle.rules.proofs.Laws.Store.{IsMessage, place-lt, own, other}
 use Rattle.rules.proofs.Laws.Group.{sized-with}
 use Rattle.rules.proofs.Laws.Sound.{named-entry, Taking, Fine}
 use Rattle.rules.proofs.Laws.Passing.{DeepPassed, deep-passed, dating, dated-length}
-use Rattle.rules.proofs.Laws.Column.{depth-put, depth-kept, depth-with}
+use Rattle.rules.proofs.Laws.Group.{depth-put, depth-kept, depth-with}
 use Rattle.rules.proofs.Runs.Cases.{never, handed-by}
 use Rattle.rules.proofs.Runs.Handing.{Addresses, place-delivered}
 use Rattle.rules.proofs.Depths.Basics.{DeepBasic, deep-fine, next-forgets, deep-throughout}
@@ -87,7 +89,7 @@ module _ (vs : List ℕ) (a : State) (h : DeepBasic vs a) (s : Step) where
   other-depth : (x : Next) → Taking g.n (taker_of s) x → (k i : ℕ) → 1 ≤ i → i ≢ taker_of s
       → depth_at (with_depth (with_process g (taker_of s) x.process) (taker_of s) k) i ≡ depth_at g i
   other-depth x t k i lo ne =
-      depth-kept (with_process g (taker_of s) x.process) (taker_of s) k i t.low lo ne ∙ depth-with g (taker_of s) x.process i t.small
+      depth-kept (with_process g (taker_of s) x.process) (taker_of s) k i t.low lo ne ∙ depth-with g (taker_of s) x.process i
 
   -- "A delivery that is not idle raises the receiver's depth to the message's depth plus one, if that is more"
   pub depth-heard : Link a s → process_depth (next a s) (taker_of s) ≡ max (process_depth a (taker_of s)) (message_depth a (slot_of s) + 1)
@@ -134,48 +136,47 @@ module _ (vs : List ℕ) (a : State) (h : DeepBasic vs a) (s : Step) where
 
 -- ---- the depth of a message
 
-module _ (i : ℕ) (m : Message) (k : ℕ) (l d : List ℕ) where
+module _ (i : ℕ) (m : Option Message) (k : ℕ) (l d : List ℕ) where
   -- where its entry is sent, the depth at a place stays
   dated-sent : (q : ℕ) → get_or l q 0 ≢ 0 → get_or (dated i m k l d) q 0 ≡ get_or d q 0
   dated-sent q ne =
       dating (λ (e : List ℕ). get_or e q 0 ≡ get_or d q 0) i m k l d refl
-      (λ is z. other d (place_of i m) k q (λ e. ne (ap (λ (p : ℕ). get_or l p 0) e ∙ z)))
+      (λ is z. other d (place_by i m) k q (λ e. ne (ap (λ (p : ℕ). get_or l p 0) e ∙ z)))
 
   -- where it turns from 0, the place is the message's, and gets the depth
-  dated-new : (q : ℕ) → place_of i m < length d → get_or l q 0 ≡ 0 → get_or (hand_over i m l) q 0 ≢ 0
-      → IsMessage m × (q ≡ place_of i m) × (get_or (dated i m k l d) q 0 ≡ k)
+  dated-new : (q : ℕ) → place_by i m < length d → get_or l q 0 ≡ 0 → get_or (hand_over i m l) q 0 ≢ 0
+      → IsMessage m × (q ≡ place_by i m) × (get_or (dated i m k l d) q 0 ≡ k)
   unfolding hand_over dated dated_if
   dated-new q lt z ne = go m lt ne
     where
-      at_place : (m : Message) → place_of i m < length d → IsMessage m → get_or (set l (place_of i m) (entry_for i m)) q 0 ≢ 0
-          → IsMessage m × (q ≡ place_of i m) × (get_or (dated_if (eqb (get_or l (place_of i m) 0) 0) (place_of i m) k d) q 0 ≡ k)
-      at_place m lt is ne = by (ℕ_discrete q (place_of i m))
+      at_place : (m : Option Message) → place_by i m < length d → IsMessage m → get_or (set l (place_by i m) (entry_by i m)) q 0 ≢ 0
+          → IsMessage m × (q ≡ place_by i m) × (get_or (dated_if (eqb (get_or l (place_by i m) 0) 0) (place_by i m) k d) q 0 ≡ k)
+      at_place m lt is ne = by (ℕ_discrete q (place_by i m))
         where
-          by : Dec (q ≡ place_of i m) → IsMessage m × (q ≡ place_of i m) × (get_or (dated_if (eqb (get_or l (place_of i m) 0) 0) (place_of i m) k d) q 0 ≡ k)
+          by : Dec (q ≡ place_by i m) → IsMessage m × (q ≡ place_by i m) × (get_or (dated_if (eqb (get_or l (place_by i m) 0) 0) (place_by i m) k d) q 0 ≡ k)
           by (yes e) =
-              let zero-there : eqb (get_or l (place_of i m) 0) 0 ≡ true = eq-eqb (get_or l (place_of i m) 0) 0 (ap (λ (p : ℕ). get_or l p 0) (sym e) ∙ z) in (
+              let zero-there : eqb (get_or l (place_by i m) 0) 0 ≡ true = eq-eqb (get_or l (place_by i m) 0) 0 (ap (λ (p : ℕ). get_or l p 0) (sym e) ∙ z) in (
                 is,
                 e,
-                ap (λ (b : Bool). get_or (dated_if b (place_of i m) k d) q 0) zero-there
-                    ∙ ap (λ (p : ℕ). get_or (set d (place_of i m) k) p 0) e ∙ own d (place_of i m) k lt,
+                ap (λ (b : Bool). get_or (dated_if b (place_by i m) k d) q 0) zero-there
+                    ∙ ap (λ (p : ℕ). get_or (set d (place_by i m) k) p 0) e ∙ own d (place_by i m) k lt,
               )
-          by (no other_place) = absurd (ne (other l (place_of i m) (entry_for i m) q other_place ∙ z))
+          by (no other_place) = absurd (ne (other l (place_by i m) (entry_by i m) q other_place ∙ z))
 
-      go : (m : Message) → place_of i m < length d → get_or (hand_over i m l) q 0 ≢ 0 → IsMessage m × (q ≡ place_of i m) × (get_or (dated i m k l d) q 0 ≡ k)
-      go Nothing lt ne = absurd (ne z)
-      go (E r q' v) lt ne = at_place (E r q' v) lt tt ne
-      go (S r) lt ne = at_place (S r) lt tt ne
-      go (F r q' v) lt ne = at_place (F r q' v) lt tt ne
-      go (Decision v) lt ne = at_place (Decision v) lt tt ne
+      go : (m : Option Message) → place_by i m < length d → get_or (hand_over i m l) q 0 ≢ 0 → IsMessage m × (q ≡ place_by i m) × (get_or (dated i m k l d) q 0 ≡ k)
+      go None lt ne = absurd (ne z)
+      go (Some (E r q' v)) lt ne = at_place (Some (E r q' v)) lt tt ne
+      go (Some (S r)) lt ne = at_place (Some (S r)) lt tt ne
+      go (Some (F r q' v)) lt ne = at_place (Some (F r q' v)) lt tt ne
+      go (Some (Decision v)) lt ne = at_place (Some (Decision v)) lt tt ne
 
 -- a message that process i hands over
 pub record HandsOver (n i q : ℕ) : Type 0 where
   pub message : Message
-  pub is : IsMessage message
   pub low : 1 ≤ i
   pub high : i ≤ n
   pub small : i ≤ greatest_size
-  pub round : message_round message ≤ last_round
+  pub round : message_round (Some message) ≤ last_round
   pub place : q ≡ place_of i message
 
 -- both messages of a process that takes a step
@@ -197,8 +198,9 @@ module _ (n i : ℕ) (x : Next) (k : ℕ) (l d : List ℕ) (t : Taking n i x) (l
   unfolding dated_both hand_overs
   both-new q z ne = by (ℕ_discrete (get_or once q 0) 0)
     where
-      hands : (m : Message) → message_round m ≤ last_round → IsMessage m → q ≡ place_of i m → HandsOver n i q
-      hands m le is e = record { message = m; is = is; low = t.low; high = t.high; small = t.small; round = le; place = e }
+      hands : (m : Option Message) → message_round m ≤ last_round → IsMessage m → q ≡ place_by i m → HandsOver n i q
+      hands None le is e = absurd is
+      hands (Some m) le is e = record { message = m; low = t.low; high = t.high; small = t.small; round = le; place = e }
 
       by : Dec (get_or once q 0 ≡ 0) → HandsOver n i q × (get_or (dated i x.second k once dates) q 0 ≡ k)
       by (yes e) =
@@ -260,7 +262,7 @@ module _ (vs : List ℕ) (a : State) (h : DeepBasic vs a) (s : Step) where
 
   -- such a message is delivered as one of the process that took the step
   pub handed-sender : (t : Step) → Addresses t → HandsOver a.group.n (taker_of s) (slot_of t) → sender_of t ≡ taker_of s
-  handed-sender t ad o = delivered-sender t (taker_of s) o.message (place-delivered t (taker_of s) o.message ad o.low o.small o.round o.is o.place)
+  handed-sender t ad o = delivered-sender t (taker_of s) o.message (place-delivered t (taker_of s) o.message ad o.low o.small o.round o.place)
 
   -- what is sent stays sent
   pub sent-next : (q : ℕ) → get_or a.store q 0 ≢ 0 → get_or (next a s).store q 0 ≢ 0

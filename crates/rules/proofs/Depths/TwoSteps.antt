@@ -1,5 +1,6 @@
 -- Statement 13: without suspicions and cuts, where the first E that each process takes is process 1's, every decision by E has depth 2; and the depth of a decided process stays.
 -- Assumes nothing.
+use Rattle.std.specs.Prelude.{Option, Some, None}
 use mathlib.Core.Path.{◌≡◌, refl, sym, ap, subst, ◌∙◌}
 use mathlib.Core.Bool.{Bool, true, false, ◌&&◌, ◌||◌, not}
 use mathlib.Core.List.{List, [], ◌∷◌, ◌++◌}
@@ -14,7 +15,7 @@ use borrow.Author.Tests.{ltb-false, le-ltb, eqb-true, eqb-false, eq-eqb, ne_eqb,
 use Rattle.rules.specs.declared.group.Group.{Group}
 use Rattle.rules.specs.declared.process.Process.{Process}
 use Rattle.rules.specs.declared.process.Message.{Message}
-use Rattle.rules.specs.declared.process.Message.TheVariants.{Nothing, E, S, F, Decision}
+use Rattle.rules.specs.declared.process.Message.TheVariants.{E, S, F, Decision}
 use Rattle.rules.specs.declared.process.Next.{Next}
 use Rattle.rules.specs.declared.step.Step.{Step}
 use Rattle.rules.specs.declared.step.Step.TheVariants.{DeliverE, DeliverS, DeliverF, DeliverDecision, Suspect, Pause, Crash, Recover}
@@ -31,6 +32,7 @@ use Rattle.rules.specs.Limits.{greatest_size, last_round, store_length, coordina
 use Rattle.rules.specs.Tally.{bit_of, count, holds, joined, meets}
 use Rattle.rules.specs.Layout.{process_at, with_process, with_depth}
 use Rattle.rules.specs.Store.{slot, kind_e, kind_s, kind_f, proposer_of, value_of, place_of, hand_over, sent_in}
+use Rattle.rules.proofs.Laws.Store.{place_by}
 use Rattle.rules.specs.Events.{takes, joins_estimates, decides, marks, paused, crashed, recovered, quiet, changed, jumps_if, jumps, relays_if, relays, decides_if, decides_at, on_e, on_decision, on_suspect, on_pause, on_crash, on_recover, cut_if}
 use Rattle.rules.specs.Kinds.{taker_of, numbers_of, round_of, delivers, slot_of, is_cut, entry_in, event_of}
 use Rattle.rules.specs.Idle.{past_for, idle_e, idle_s, idle_f, idle}
@@ -42,7 +44,7 @@ use Rattle.rules.proofs.Laws.Store.{Place, IsMessage, entry-nonzero, place-lt, h
 use Rattle.rules.proofs.Laws.Group.{process-put, process-kept, started-process, started-size}
 use Rattle.rules.proofs.Laws.Sound.{named-entry, second-among, taker-in, Taking, Fine}
 use Rattle.rules.proofs.Laws.Passing.{DeepPassed, deep-passed}
-use Rattle.rules.proofs.Laws.Column.{process-deep, process-forgets, depth-started}
+use Rattle.rules.proofs.Laws.Group.{process-deep, process-forgets, depth-started}
 use Rattle.rules.proofs.Runs.Cases.{never, process-by, handed-by}
 use Rattle.rules.proofs.Runs.Tallies.{overs-stay}
 use Rattle.rules.proofs.Depths.Basics.{DeepBasic, deep-size, deep-few, deep-whole, deep-fine, next-forgets, deep-next, start-deep, deep-start, deep-throughout, deep-basic, deep_more}
@@ -88,8 +90,8 @@ module _ (vs : List ℕ) (i : ℕ) (lo : 1 ≤ i) where
   decided-next : (a : State) (s : Step) → DeepBasic vs a → i ≤ greatest_size → (process_of a i).decided ≡ true → (process_of (next a s) i).decided ≡ true
   unfolding run.next
   decided-next a s h hi e =
-      let before : (process_at (forgetting a.group) i).decided ≡ true = ap (λ (p : Process). p.decided) (process-forgets a.group i h.sized hi) ∙ e in
-      ap (λ (p : Process). p.decided) (sym (process-forgets (next a s).group i (deep-next vs a h s).sized hi))
+      let before : (process_at (forgetting a.group) i).decided ≡ true = ap (λ (p : Process). p.decided) (process-forgets a.group i) ∙ e in
+      ap (λ (p : Process). p.decided) (sym (process-forgets (next a s).group i))
       ∙ ap (λ (b : Bare). (process_at b.group i).decided) (next-forgets vs a h s)
       ∙ process-by (λ (p : Process). p.decided ≡ true) (forgetting a.group) a.store s i h.basic.sized lo hi crash-decided before
       (λ p t f. event-decided (forgetting a.group) a.store s f (ap (λ (k : ℕ). (process_at (forgetting a.group) k).decided) t ∙ before))
@@ -136,26 +138,26 @@ record Good (took : ℕ → Bool) (a : State) : Type 0 where
 -- ---- what is handed over
 
 -- none, a decision, or an E of round 0, which says that T holds
-abbrev Mild : Type 0 → Message → Type 0
-Mild T Nothing = Unit {0}
-Mild T (E r q v) = T × (r ≡ 0)
-Mild T (S r) = ⊥
-Mild T (F r q v) = ⊥
-Mild T (Decision v) = Unit {0}
+abbrev Mild : Type 0 → Option Message → Type 0
+Mild T None = Unit {0}
+Mild T (Some (E r q v)) = T × (r ≡ 0)
+Mild T (Some (S r)) = ⊥
+Mild T (Some (F r q v)) = ⊥
+Mild T (Some (Decision v)) = Unit {0}
 
 -- an entry below the decisions that turns from 0 is that of process i's E of round 0
-mild-turn : (T : Type 0) (i : ℕ) (m : Message) (l : List ℕ) (q : ℕ) → Mild T m → q < store_length - greatest_size → get_or l q 0 ≡ 0 → get_or (hand_over i m l) q 0 ≢ 0
+mild-turn : (T : Type 0) (i : ℕ) (m : Option Message) (l : List ℕ) (q : ℕ) → Mild T m → q < store_length - greatest_size → get_or l q 0 ≡ 0 → get_or (hand_over i m l) q 0 ≢ 0
     → T × (q ≡ slot 0 i kind_e)
 unfolding place_of hand_over
-mild-turn T i Nothing l q m lt z ne = absurd (ne z)
-mild-turn T i (E r p v) l q m lt z ne = (m.0, by (ℕ_discrete q (slot r i kind_e)))
+mild-turn T i None l q m lt z ne = absurd (ne z)
+mild-turn T i (Some (E r p v)) l q m lt z ne = (m.0, by (ℕ_discrete q (slot r i kind_e)))
   where
     by : Dec (q ≡ slot r i kind_e) → q ≡ slot 0 i kind_e
     by (yes e) = omega (arith, m.1)
-    by (no other) = absurd (ne (hand_over-other i (E r p v) l q other ∙ z))
-mild-turn T i (S r) l q m lt z ne = absurd m
-mild-turn T i (F r p v) l q m lt z ne = absurd m
-mild-turn T i (Decision v) l q m lt z ne = absurd (ne (hand_over-other i (Decision v) l q (omega arith) ∙ z))
+    by (no other) = absurd (ne (hand_over-other i (Some (E r p v)) l q other ∙ z))
+mild-turn T i (Some (S r)) l q m lt z ne = absurd m
+mild-turn T i (Some (F r p v)) l q m lt z ne = absurd m
+mild-turn T i (Some (Decision v)) l q m lt z ne = absurd (ne (hand_over-other i (Some (Decision v)) l q (omega arith) ∙ z))
 
 overs-turn : (T : Type 0) (i : ℕ) (x : Next) (l : List ℕ) (q : ℕ) → Mild T x.first → Mild T x.second → q < store_length - greatest_size → get_or l q 0 ≡ 0
     → get_or (hand_overs i x l) q 0 ≢ 0 → T × (q ≡ slot 0 i kind_e)
@@ -167,11 +169,11 @@ overs-turn T i x l q one two lt z ne = by (ℕ_discrete (get_or (hand_over i x.f
     by (no turned) = mild-turn T i x.first l q one lt z turned
 
 -- a first message that is one is sent
-first-sent : (n i : ℕ) (x : Next) (l : List ℕ) → Taking n i x → store_length ≤ length l → IsMessage x.first → get_or (hand_overs i x l) (place_of i x.first) 0 ≢ 0
+first-sent : (n i : ℕ) (x : Next) (l : List ℕ) → Taking n i x → store_length ≤ length l → IsMessage x.first → get_or (hand_overs i x l) (place_by i x.first) 0 ≢ 0
 unfolding hand_overs
 first-sent n i x l t long is =
     let lt = place-lt i x.first t.small t.first in
-    handed-by (λ (e : ℕ). e ≢ 0) i x.second (hand_over i x.first l) (place_of i x.first)
+    handed-by (λ (e : ℕ). e ≢ 0) i x.second (hand_over i x.first l) (place_by i x.first)
     (omega (arith, place-lt i x.second t.small t.second, hand_over-length i x.first l))
     (named-entry n i x.second t.low t.second-named)
     (λ z. named-entry n i x.first t.low t.first-named is (sym (hand_over-own i x.first l is (omega arith)) ∙ z))
@@ -244,13 +246,13 @@ module _ (vs : List ℕ) (a : State) (h : DeepBasic vs a) (s : Step) (t : Took a
   own-process : process_at (next a s).group taker ≡ event.process
   own-process =
       ap (λ (g : Group). process_at g taker) t.group
-      ∙ process-deep (with_process a.group taker event.process) taker (depth_after a.group a.depths s) taker t.taking.small
+      ∙ process-deep (with_process a.group taker event.process) taker (depth_after a.group a.depths s) taker
       ∙ process-put a.group taker event.process h.sized t.taking.low t.taking.small
 
   other-process : (m : ℕ) → 1 ≤ m → m ≤ greatest_size → m ≢ taker → process_at (next a s).group m ≡ process_at a.group m
   other-process m lo hi ne =
       ap (λ (g : Group). process_at g m) t.group
-      ∙ process-deep (with_process a.group taker event.process) taker (depth_after a.group a.depths s) m hi
+      ∙ process-deep (with_process a.group taker event.process) taker (depth_after a.group a.depths s) m
       ∙ process-kept a.group taker m event.process t.taking.low t.taking.small lo hi ne
 
   -- what is sent stays sent
@@ -410,7 +412,7 @@ record Heeded (n i j q v : ℕ) (p : Process) (x : Next) : Type 0 where
   majority : p.decided ≡ false → x.process.decided ≡ true → meets (joined p.estimates j) n ≡ true
   first : Mild (2 ≤ i) x.first
   second : Mild (2 ≤ i) x.second
-  relays : 2 ≤ i → p.estimates ≡ 0 → x.first ≡ E 0 q v
+  relays : 2 ≤ i → p.estimates ≡ 0 → x.first ≡ Some (E 0 q v)
 
 module _ (n i j q v : ℕ) (p : Process) (low : 1 ≤ i) (round : p.round ≡ 0) where
   -- all but process 1, the coordinator, relay the first E
@@ -445,7 +447,7 @@ module _ (n i j q v : ℕ) (p : Process) (low : 1 ≤ i) (round : p.round ≡ 0)
         majority = λ u w. f;
         first = (relay-two e, round);
         second = tt;
-        relays = λ two z. ap (λ (r : ℕ). E r q v) round;
+        relays = λ two z. ap (λ (r : ℕ). Some (E r q v)) round;
       }
   heeds true false e f =
       record {
@@ -455,7 +457,7 @@ module _ (n i j q v : ℕ) (p : Process) (low : 1 ≤ i) (round : p.round ≡ 0)
         majority = λ u w. never u w;
         first = (relay-two e, round);
         second = tt;
-        relays = λ two z. ap (λ (r : ℕ). E r q v) round;
+        relays = λ two z. ap (λ (r : ℕ). Some (E r q v)) round;
       }
   heeds false true e f =
       record {
@@ -598,7 +600,7 @@ module _ (vs : List ℕ) (a : State) (h : DeepBasic vs a) (took : ℕ → Bool) 
           let x = event_of a.group a.store step in
           λ z.
           first-sent a.group.n i x a.store t.taking h.basic.long (subst IsMessage (sym e) tt)
-          (ap (λ (m : Message). get_or (hand_overs i x a.store) (place_of i m) 0) e ∙ ap (λ (l : List ℕ). get_or l place 0) (sym t.store) ∙ z)
+          (ap (λ (m : Option Message). get_or (hand_overs i x a.store) (place_by i m) 0) e ∙ ap (λ (l : List ℕ). get_or l place 0) (sym t.store) ∙ z)
 
   good-E : Good (took_by took a step) (next a step)
   unfolding taker_of delivers_e
@@ -754,7 +756,7 @@ good_start vs l d b =
           undecided = λ u.
               record {
                 untaken = λ f. (
-                  ap (λ (b : State). process_depth b i) (start-deep vs l d b) ∙ depth-started vs (length vs) i b.few (omega (arith, b.few)),
+                  ap (λ (b : State). process_depth b i) (start-deep vs l d b) ∙ depth-started vs (length vs) i,
                   ap (λ (p : Process). p.estimates) is,
                 );
                 taken = λ f. never refl f;

@@ -13,7 +13,6 @@ use Rattle.rules.specs.declared.process.Process.{Process}
 use Rattle.rules.specs.declared.process.Next.{Next}
 use Rattle.rules.specs.declared.step.Step.{Step}
 use Rattle.rules.specs.declared.step.Step.TheVariants.{DeliverE, DeliverS, DeliverF, DeliverDecision, Suspect, Pause, Crash, Recover}
-use Rattle.rules.specs.declared.course.Address.TheVariants.{Misses, At}
 use Rattle.rules.specs.Limits.{greatest_size, last_round, too_many, store_length, among}
 use Rattle.rules.specs.Layout.{process_at, with_process, with_depth}
 use Rattle.rules.specs.Store.{proposer_of, one}
@@ -26,7 +25,7 @@ use Rattle.rules.specs.Events.{cut_if}
 use Rattle.rules.specs.Kinds.{taker_of, numbers_of, round_of, delivers, slot_of, is_cut, entry_in, event_of}
 use Rattle.rules.specs.Idle.{idle}
 use Rattle.rules.specs.declared.store.Traffic.{Traffic}
-use Rattle.rules.specs.Private.{number_rows, unless_missed, address_of, held_rows, unless_past, or_past, or_impossible, or_up, last_course, unless_held, held_course, Numbered, Handable, HandsOverBoth}
+use Rattle.rules.specs.Private.{Misses, At, number_rows, unless_missed, address_of, held_rows, unless_past, or_past, or_impossible, or_up, last_course, unless_held, held_course, Numbered, Handable, HandsOverBoth}
 use Rattle.rules.proofs.Laws.Row.{or_else, number-else, held-else, delivered-zero, owned-zero, held-zero}
 use Rattle.rules.proofs.Laws.Step.{up-yes, up-many, up-no}
 use Rattle.rules.proofs.Laws.Sound.{sound-facts}
@@ -238,7 +237,6 @@ numbered g l d s h z hp =
     let f = sound-facts g (deep-sound g h.sound) in
     let t = taker-low g.n s z in
     record {
-      low = f.low;
       high = f.high;
       round = omega (arith, ap (λ (q : Process). q.round) hp, (f.each (taker_of s) t.0 t.1).in-round);
       numbers = z;
@@ -294,12 +292,10 @@ module _ (g : Group) (l d : List ℕ) (s : Step) where
   taken-outcome h e = rw (h, e)
 
   -- what a course hands over has its place in both stores
-  pub takes-handable : {i : ℕ} {x : Next} → Ready g l d → course g l d s ≡ Takes i x → Handable i x l d
+  pub takes-handable : {i : ℕ} {x : Next} → Ready g l d → course g l d s ≡ Takes i x → Handable x l d
   takes-handable {i} {x} h e =
       let t = (course-takes g l d s e).0 in
       record {
-        low = t.low;
-        high = t.small;
         first = t.first;
         second = t.second;
         long = h.long;

@@ -1,166 +1,165 @@
--- The laws of putting a process into a group and of taking one out, and what the groups that a start makes have. Assumes nothing.
+-- The laws of putting a process and its depth into a group and of taking one out, what the groups that a start makes have, and that a group with its depths forgotten has the same records.
+-- Assumes nothing.
 use mathlib.Core.Path.{◌≡◌, refl, sym, ap, ap₂, ◌∙◌}
-use mathlib.Core.List.{List}
+use mathlib.Core.List.{List, [], ◌∷◌, map}
 use mathlib.Core.Logic.{◌≢◌}
-use mathlib.Core.Bool.{false}
-use Prim.Native.Nat.{ℕ, zero, suc, ◌+◌, ◌-◌, ◌%◌, ◌≤◌, ◌<◌}
+use Prim.Native.Nat.{ℕ, zero, suc, ◌-◌, ◌≤◌, ◌<◌}
 use native.Mathlib.Decide.{ℕ_discrete}
 use native.Mathlib.Omega.{arith}
-use lib.ListN.{length, get_or, set, length-set, get_or-replicate}
+use lib.ListN.{length, get_or, set, replicate, length-set, length-map}
 use lib.Seq.{get_or-set_same, get_or-set_other}
 use Rattle.rules.specs.declared.group.Group.{Group}
+use Rattle.rules.specs.declared.group.Member.{Member}
 use Rattle.rules.specs.declared.process.Process.{Process}
-use Rattle.rules.specs.Layout.{process_at, with_process, Sized, put₂, put₃, put₄, blank_group}
+use Rattle.rules.specs.Layout.{group_of, member_with, nobody, member_at, process_at, depth_at, with_member, with_process, with_depth, Sized, blank_group, shallow, forgetting}
 use Rattle.rules.specs.Records.{blank}
 use Rattle.rules.specs.Start.{started_to, fresh}
 
--- ---- a list in columns of 16
+-- ---- one process
 
--- what stands elsewhere stays, and what is put in at i comes out of each column
-module _ {A : Type 0} (l : List A) (i : ℕ) (a b d : A) (hi : i ≤ 16) where
-  module _ (k : ℕ) (ne : k % 16 ≢ i - 1) where
-    kept₂ : get_or (put₂ l i a b) k d ≡ get_or l k d
-    kept₂ =
-        get_or-set_other (set l (i - 1) a) (16 + (i - 1)) k b d (λ e. ne (omega arith))
-        ∙ get_or-set_other l (i - 1) k a d (λ e. ne (omega arith))
+-- what was put in comes out, and every other process stays
+pub member-put : (g : Group) (i : ℕ) (m : Member) → Sized g → 1 ≤ i → i ≤ 16 → member_at (with_member g i m) i ≡ m
+member-put g i m s lo hi = get_or-set_same g.members (i - 1) m nobody (omega (arith, s.members))
 
-    kept₃ : (c : A) → get_or (put₃ l i a b c) k d ≡ get_or l k d
-    kept₃ c = get_or-set_other (put₂ l i a b) (32 + (i - 1)) k c d (λ e. ne (omega arith)) ∙ kept₂
+pub member-kept : (g : Group) (i j : ℕ) (m : Member) → 1 ≤ i → 1 ≤ j → j ≢ i → member_at (with_member g i m) j ≡ member_at g j
+member-kept g i j m lo lo' ne = get_or-set_other g.members (i - 1) (j - 1) m nobody (λ e. ne (omega arith))
 
-    kept₄ : (c f : A) → get_or (put₄ l i a b c f) k d ≡ get_or l k d
-    kept₄ c f = get_or-set_other (put₃ l i a b c) (48 + (i - 1)) k f d (λ e. ne (omega arith)) ∙ kept₃ c
-
-  module _ (lo : 1 ≤ i) where
-    first₂ : 32 ≤ length l → get_or (put₂ l i a b) (i - 1) d ≡ a
-    first₂ s = get_or-set_other (set l (i - 1) a) (16 + (i - 1)) (i - 1) b d (omega arith) ∙ get_or-set_same l (i - 1) a d (omega arith)
-
-    second₂ : 32 ≤ length l → get_or (put₂ l i a b) (16 + (i - 1)) d ≡ b
-    second₂ s = get_or-set_same (set l (i - 1) a) (16 + (i - 1)) b d (omega (arith, length-set l (i - 1) a))
-
-    first₃ : (c : A) → 48 ≤ length l → get_or (put₃ l i a b c) (i - 1) d ≡ a
-    first₃ c s = get_or-set_other (put₂ l i a b) (32 + (i - 1)) (i - 1) c d (omega arith) ∙ first₂ (omega arith)
-
-    second₃ : (c : A) → 48 ≤ length l → get_or (put₃ l i a b c) (16 + (i - 1)) d ≡ b
-    second₃ c s = get_or-set_other (put₂ l i a b) (32 + (i - 1)) (16 + (i - 1)) c d (omega arith) ∙ second₂ (omega arith)
-
-    third₃ : (c : A) → 48 ≤ length l → get_or (put₃ l i a b c) (32 + (i - 1)) d ≡ c
-    third₃ c s =
-        get_or-set_same (put₂ l i a b) (32 + (i - 1)) c d
-        (omega (arith, length-set (set l (i - 1) a) (16 + (i - 1)) b, length-set l (i - 1) a))
-
-    -- the fourth column is put in last, and the three others stay
-    ahead₄ : (c f : A) (k : ℕ) → k < 48 → get_or (put₄ l i a b c f) k d ≡ get_or (put₃ l i a b c) k d
-    ahead₄ c f k s = get_or-set_other (put₃ l i a b c) (48 + (i - 1)) k f d (omega arith)
-
-    first₄ : (c f : A) → 64 ≤ length l → get_or (put₄ l i a b c f) (i - 1) d ≡ a
-    first₄ c f s = ahead₄ c f (i - 1) (omega arith) ∙ first₃ c (omega arith)
-
-    second₄ : (c f : A) → 64 ≤ length l → get_or (put₄ l i a b c f) (16 + (i - 1)) d ≡ b
-    second₄ c f s = ahead₄ c f (16 + (i - 1)) (omega arith) ∙ second₃ c (omega arith)
-
-    third₄ : (c f : A) → 64 ≤ length l → get_or (put₄ l i a b c f) (32 + (i - 1)) d ≡ c
-    third₄ c f s = ahead₄ c f (32 + (i - 1)) (omega arith) ∙ third₃ c (omega arith)
-
-    fourth₄ : (c f : A) → 64 ≤ length l → get_or (put₄ l i a b c f) (48 + (i - 1)) d ≡ f
-    fourth₄ c f s =
-        get_or-set_same (put₃ l i a b c) (48 + (i - 1)) f d
-        (omega (arith, length-set (put₂ l i a b) (32 + (i - 1)) c, length-set (set l (i - 1) a) (16 + (i - 1)) b, length-set l (i - 1) a))
-
--- ---- a group
-
--- the process that was put in comes out
+-- its record
 pub process-put : (g : Group) (i : ℕ) (p : Process) → Sized g → 1 ≤ i → i ≤ 16 → process_at (with_process g i p) i ≡ p
 unfolding process_at with_process
-process-put g i p s lo hi = λ k.
-    record {
-      first = first₃ g.words i p.first p.value 0 hi lo p.decision (omega arith) k;
-      round = first₄ g.bytes i p.round p.phase 0 hi lo p.proposer p.recoveries (omega arith) k;
-      phase = second₄ g.bytes i p.round p.phase 0 hi lo p.proposer p.recoveries (omega arith) k;
-      proposer = third₄ g.bytes i p.round p.phase 0 hi lo p.proposer p.recoveries (omega arith) k;
-      value = second₃ g.words i p.first p.value 0 hi lo p.decision (omega arith) k;
-      marked = first₃ g.flags i p.marked p.decided false hi lo p.up (omega arith) k;
-      decided = second₃ g.flags i p.marked p.decided false hi lo p.up (omega arith) k;
-      decision = third₃ g.words i p.first p.value 0 hi lo p.decision (omega arith) k;
-      recoveries = fourth₄ g.bytes i p.round p.phase 0 hi lo p.proposer p.recoveries (omega arith) k;
-      up = third₃ g.flags i p.marked p.decided false hi lo p.up (omega arith) k;
-      estimates = first₂ g.halves i p.estimates p.suspicions 0 hi lo (omega arith) k;
-      suspicions = second₂ g.halves i p.estimates p.suspicions 0 hi lo (omega arith) k;
-    }
+process-put g i p s lo hi = ap (λ (m : Member). m.process) (member-put g i (member_with p (depth_at g i)) s lo hi)
 
--- every other process stays
 pub process-kept : (g : Group) (i j : ℕ) (p : Process) → 1 ≤ i → i ≤ 16 → 1 ≤ j → j ≤ 16 → j ≢ i
     → process_at (with_process g i p) j ≡ process_at g j
 unfolding process_at with_process
-process-kept g i j p lo hi lo' hi' ne = λ k.
-    record {
-      first = kept₃ g.words i p.first p.value 0 hi (j - 1) at₀ p.decision k;
-      round = kept₄ g.bytes i p.round p.phase 0 hi (j - 1) at₀ p.proposer p.recoveries k;
-      phase = kept₄ g.bytes i p.round p.phase 0 hi (16 + (j - 1)) at₁ p.proposer p.recoveries k;
-      proposer = kept₄ g.bytes i p.round p.phase 0 hi (32 + (j - 1)) at₂ p.proposer p.recoveries k;
-      value = kept₃ g.words i p.first p.value 0 hi (16 + (j - 1)) at₁ p.decision k;
-      marked = kept₃ g.flags i p.marked p.decided false hi (j - 1) at₀ p.up k;
-      decided = kept₃ g.flags i p.marked p.decided false hi (16 + (j - 1)) at₁ p.up k;
-      decision = kept₃ g.words i p.first p.value 0 hi (32 + (j - 1)) at₂ p.decision k;
-      recoveries = kept₄ g.bytes i p.round p.phase 0 hi (48 + (j - 1)) at₃ p.proposer p.recoveries k;
-      up = kept₃ g.flags i p.marked p.decided false hi (32 + (j - 1)) at₂ p.up k;
-      estimates = kept₂ g.halves i p.estimates p.suspicions 0 hi (j - 1) at₀ k;
-      suspicions = kept₂ g.halves i p.estimates p.suspicions 0 hi (16 + (j - 1)) at₁ k;
-    }
-  where
-    at₀ : (j - 1) % 16 ≢ i - 1
-    at₀ = omega arith
+process-kept g i j p lo hi lo' hi' ne = ap (λ (m : Member). m.process) (member-kept g i j (member_with p (depth_at g i)) lo lo' ne)
 
-    at₁ : (16 + (j - 1)) % 16 ≢ i - 1
-    at₁ = omega arith
-
-    at₂ : (32 + (j - 1)) % 16 ≢ i - 1
-    at₂ = omega arith
-
-    at₃ : (48 + (j - 1)) % 16 ≢ i - 1
-    at₃ = omega arith
-
--- the size of the group and its columns stay
+-- the size of the group and its places stay
 pub with_size : (g : Group) (i : ℕ) (p : Process) → (with_process g i p).n ≡ g.n
 unfolding with_process
 with_size g i p = refl
 
 pub sized-with : (g : Group) (i : ℕ) (p : Process) → Sized g → Sized (with_process g i p)
 unfolding with_process
-sized-with g i p s =
-    record {
-      words = simp length-set s.words;
-      halves = simp length-set s.halves;
-      bytes = simp length-set s.bytes;
-      flags = simp length-set s.flags;
-    }
+sized-with g i p s = record { members = simp length-set s.members }
+
+-- ---- depths and records
+
+-- a place written with what a part of it was before: the part is the same everywhere
+part-same : {B : Type 0} (f : Member → B) (l : List Member) (k j : ℕ) (m : Member) → f m ≡ f (get_or l k nobody)
+    → f (get_or (set l k m) j nobody) ≡ f (get_or l j nobody)
+part-same f [] k j m e = refl
+part-same f (x ∷ l) zero zero m e = e
+part-same f (x ∷ l) zero (suc j) m e = refl
+part-same f (x ∷ l) (suc k) zero m e = refl
+part-same f (x ∷ l) (suc k) (suc j) m e = part-same f l k j m e
+
+module _ (g : Group) (i k : ℕ) where
+  -- no record sees a depth
+  pub process-deep : (j : ℕ) → process_at (with_depth g i k) j ≡ process_at g j
+  unfolding process_at with_depth
+  process-deep j = part-same (λ (m : Member). m.process) g.members (i - 1) (j - 1) (member_with (process_at g i) k) refl
+
+  -- the depth that is put in comes out, every other one stays
+  pub depth-put : Sized g → 1 ≤ i → i ≤ 16 → depth_at (with_depth g i k) i ≡ k
+  unfolding depth_at with_depth
+  depth-put s lo hi = ap (λ (m : Member). m.depth) (member-put g i (member_with (process_at g i) k) s lo hi)
+
+  pub depth-kept : (j : ℕ) → 1 ≤ i → 1 ≤ j → j ≢ i → depth_at (with_depth g i k) j ≡ depth_at g j
+  unfolding depth_at with_depth
+  depth-kept j lo lo' ne = ap (λ (m : Member). m.depth) (member-kept g i j (member_with (process_at g i) k) lo lo' ne)
+
+  pub sized-deep : Sized g → Sized (with_depth g i k)
+  unfolding with_depth
+  sized-deep s = record { members = simp length-set s.members }
+
+-- no depth sees a record
+pub depth-with : (g : Group) (i : ℕ) (p : Process) (j : ℕ) → depth_at (with_process g i p) j ≡ depth_at g j
+unfolding depth_at with_process
+depth-with g i p j = part-same (λ (m : Member). m.depth) g.members (i - 1) (j - 1) (member_with p (depth_at g i)) refl
+
+-- the record and then the depth of a process is the whole of it
+set-both : (l : List Member) (k d : ℕ) (a : Member) → set (set l k a) k (member_with (get_or (set l k a) k nobody).process d) ≡ set l k (member_with a.process d)
+set-both [] k d a = refl
+set-both (x ∷ l) zero d a = refl
+set-both (x ∷ l) (suc k) d a = ap (λ (t : List Member). x ∷ t) (set-both l k d a)
+
+pub member-both : (g : Group) (i k : ℕ) (p : Process) → with_depth (with_process g i p) i k ≡ with_member g i (member_with p k)
+unfolding with_depth with_process process_at
+member-both g i k p = ap (group_of g.n) (set-both g.members (i - 1) k (member_with p (depth_at g i)))
+
+-- ---- the depths forgotten
+
+map-get : (l : List Member) (k : ℕ) → get_or (map shallow l) k nobody ≡ shallow (get_or l k nobody)
+map-get [] k = refl
+map-get (x ∷ l) zero = refl
+map-get (x ∷ l) (suc k) = map-get l k
+
+map-set : (l : List Member) (k : ℕ) (m : Member) → map shallow (set l k m) ≡ set (map shallow l) k (shallow m)
+map-set [] k m = refl
+map-set (x ∷ l) zero m = refl
+map-set (x ∷ l) (suc k) m = ap (λ (t : List Member). shallow x ∷ t) (map-set l k m)
+
+-- the records are the same
+pub process-forgets : (g : Group) (j : ℕ) → process_at (forgetting g) j ≡ process_at g j
+unfolding process_at forgetting
+process-forgets g j = ap (λ (m : Member). m.process) (map-get g.members (j - 1))
+
+pub sized-forgets : (g : Group) → Sized g → Sized (forgetting g)
+unfolding forgetting
+sized-forgets g s = record { members = simp length-map s.members }
+
+-- every depth is 0
+pub depth-forgets : (g : Group) (j : ℕ) → depth_at (forgetting g) j ≡ 0
+unfolding depth_at forgetting
+depth-forgets g j = ap (λ (m : Member). m.depth) (map-get g.members (j - 1))
+
+-- a record that is put in, and a depth
+pub forget-with : (g : Group) (i : ℕ) (p : Process) → forgetting (with_process g i p) ≡ with_process (forgetting g) i p
+unfolding forgetting with_process
+forget-with g i p =
+    ap (group_of g.n) (map-set g.members (i - 1) (member_with p (depth_at g i)))
+    ∙ ap (λ (k : ℕ). with_member (forgetting g) i (member_with p k)) (sym (depth-forgets g i))
+
+pub forget-deep : (g : Group) (i k : ℕ) → forgetting (with_depth g i k) ≡ forgetting g
+unfolding forgetting with_depth process_at
+forget-deep g i k = ap (group_of g.n) (map-set g.members (i - 1) (member_with (process_at g i) k) ∙ same g.members (i - 1))
+  where
+    same : (l : List Member) (j : ℕ) → set (map shallow l) j (shallow (get_or l j nobody)) ≡ map shallow l
+    same [] j = refl
+    same (x ∷ l) zero = refl
+    same (x ∷ l) (suc j) = ap (λ (t : List Member). shallow x ∷ t) (same l j)
 
 -- ---- the groups of a start
 
 pub sized-blank : (n : ℕ) → Sized (blank_group n)
 unfolding blank_group
-sized-blank n = record { words = refl; halves = refl; bytes = refl; flags = refl }
+sized-blank n = record { members = refl }
 
--- every record of a blank group is blank
-pub blank-process : (n i : ℕ) → i ≤ 16 → process_at (blank_group n) i ≡ blank
-unfolding process_at blank_group blank
-blank-process n i hi = λ k.
-    record {
-      first = get_or-replicate 48 (i - 1) 0 0 (omega arith) k;
-      round = get_or-replicate 64 (i - 1) 0 0 (omega arith) k;
-      phase = get_or-replicate 64 (16 + (i - 1)) 0 0 (omega arith) k;
-      proposer = get_or-replicate 64 (32 + (i - 1)) 0 0 (omega arith) k;
-      value = get_or-replicate 48 (16 + (i - 1)) 0 0 (omega arith) k;
-      marked = get_or-replicate 48 (i - 1) false false (omega arith) k;
-      decided = get_or-replicate 48 (16 + (i - 1)) false false (omega arith) k;
-      decision = get_or-replicate 48 (32 + (i - 1)) 0 0 (omega arith) k;
-      recoveries = get_or-replicate 64 (48 + (i - 1)) 0 0 (omega arith) k;
-      up = get_or-replicate 48 (32 + (i - 1)) false false (omega arith) k;
-      estimates = get_or-replicate 48 (i - 1) 0 0 (omega arith) k;
-      suspicions = get_or-replicate 48 (16 + (i - 1)) 0 0 (omega arith) k;
-    }
+-- every record of a blank group is blank, and every depth 0
+member-blank : (n i : ℕ) → member_at (blank_group n) i ≡ nobody
+unfolding blank_group
+member-blank n i = all-nobody 16 (i - 1)
+  where
+    all-nobody : (k j : ℕ) → get_or (replicate k nobody) j nobody ≡ nobody
+    all-nobody zero j = refl
+    all-nobody (suc k) zero = refl
+    all-nobody (suc k) (suc j) = all-nobody k j
+
+pub blank-process : (n i : ℕ) → process_at (blank_group n) i ≡ blank
+unfolding process_at
+blank-process n i = ap (λ (m : Member). m.process) (member-blank n i)
+
+depth-blank : (n j : ℕ) → depth_at (blank_group n) j ≡ 0
+unfolding depth_at
+depth-blank n j = ap (λ (m : Member). m.depth) (member-blank n j)
+
+forget-blank : (n : ℕ) → forgetting (blank_group n) ≡ blank_group n
+unfolding forgetting blank_group
+forget-blank n = refl
 
 module _ (vs : List ℕ) where
-  -- columns and size, with the first k processes started
+  -- places and size, with the first k processes started
   pub sized-started : (k : ℕ) → Sized (started_to vs k)
   unfolding started_to
   sized-started zero = sized-blank (length vs)
@@ -191,7 +190,20 @@ module _ (vs : List ℕ) where
   -- every other one is blank
   pub started-blank : (k i : ℕ) → k < i → i ≤ 16 → process_at (started_to vs k) i ≡ blank
   unfolding started_to
-  started-blank zero i a b = blank-process (length vs) i b
+  started-blank zero i a b = blank-process (length vs) i
   started-blank (suc k) i a b =
       process-kept (started_to vs k) (suc k) i (fresh (suc k) (get_or vs k 0)) (omega arith) (omega arith) (omega arith) b (omega arith)
       ∙ started-blank k i (omega arith) b
+
+  -- and no depth is more than 0
+  pub forget-started : (k : ℕ) → forgetting (started_to vs k) ≡ started_to vs k
+  unfolding started_to
+  forget-started zero = forget-blank (length vs)
+  forget-started (suc k) =
+      forget-with (started_to vs k) (suc k) (fresh (suc k) (get_or vs k 0))
+      ∙ ap (λ (g : Group). with_process g (suc k) (fresh (suc k) (get_or vs k 0))) (forget-started k)
+
+  pub depth-started : (k j : ℕ) → depth_at (started_to vs k) j ≡ 0
+  unfolding started_to
+  depth-started zero j = depth-blank (length vs) j
+  depth-started (suc k) j = depth-with (started_to vs k) (suc k) (fresh (suc k) (get_or vs k 0)) j ∙ depth-started k j

@@ -1,4 +1,5 @@
 -- The laws of depths: the table with the request's rows passes only what the table without them does, and what a course that is taken says. Assumes nothing.
+use Rattle.std.specs.Prelude.{Option, Some, None}
 use mathlib.Core.Path.{◌≡◌, refl, sym, ap, ap₂, subst, ◌∙◌}
 use mathlib.Core.Bool.{Bool, true, false, ◌&&◌, ◌||◌, not}
 use mathlib.Core.List.{List}
@@ -10,7 +11,7 @@ use lib.ListN.{length, get_or, set, length-set}
 use borrow.Author.Tests.{leb-true, le-leb, not-false, eqb-true}
 use Rattle.rules.specs.declared.group.Group.{Group}
 use Rattle.rules.specs.declared.process.Message.{Message}
-use Rattle.rules.specs.declared.process.Message.TheVariants.{Nothing, E, S, F, Decision}
+use Rattle.rules.specs.declared.process.Message.TheVariants.{E, S, F, Decision}
 use Rattle.rules.specs.declared.process.Next.{Next}
 use Rattle.rules.specs.declared.step.Step.{Step}
 use Rattle.rules.specs.Depths.{dated_if, dated}
@@ -18,7 +19,7 @@ use Rattle.rules.specs.Refusals.{all_of, short, whole, damaged, too_deep, refusa
 use Rattle.rules.specs.Step.{Course, Refuses, Takes, idles, or_idle, unless_refused, course}
 use Rattle.rules.specs.Limits.{greatest_size, deepest_process, among}
 use Rattle.rules.specs.Layout.{process_at, depth_at}
-use Rattle.rules.specs.Store.{place_of}
+use Rattle.rules.proofs.Laws.Store.{place_by}
 use Rattle.rules.specs.Kinds.{taker_of, is_cut, event_of}
 use Rattle.rules.specs.Idle.{idle}
 use Rattle.rules.proofs.Bare.Step as base
@@ -99,28 +100,28 @@ course-takes g l d s {i} {x} e = go (refusal g l d s) refl
 -- ---- one message that is dated
 
 -- what is true of the depths as they are, and of those with the depth written where the entry was 0, is true after the handing over
-pub dating : (P : List ℕ → Type 0) (i : ℕ) (m : Message) (k : ℕ) (l d : List ℕ) → P d
-    → (IsMessage m → get_or l (place_of i m) 0 ≡ 0 → P (set d (place_of i m) k))
+pub dating : (P : List ℕ → Type 0) (i : ℕ) (m : Option Message) (k : ℕ) (l d : List ℕ) → P d
+    → (IsMessage m → get_or l (place_by i m) 0 ≡ 0 → P (set d (place_by i m) k))
     → P (dated i m k l d)
 unfolding dated dated_if
 dating P i m k l d old new = go m new
   where
-    at_place : (m : Message) (b : Bool) → eqb (get_or l (place_of i m) 0) 0 ≡ b → (get_or l (place_of i m) 0 ≡ 0 → P (set d (place_of i m) k))
-        → P (dated_if b (place_of i m) k d)
-    at_place m true e new = new (eqb-true (get_or l (place_of i m) 0) 0 e)
+    at_place : (m : Option Message) (b : Bool) → eqb (get_or l (place_by i m) 0) 0 ≡ b → (get_or l (place_by i m) 0 ≡ 0 → P (set d (place_by i m) k))
+        → P (dated_if b (place_by i m) k d)
+    at_place m true e new = new (eqb-true (get_or l (place_by i m) 0) 0 e)
     at_place m false e new = old
 
-    go : (m : Message) → (IsMessage m → get_or l (place_of i m) 0 ≡ 0 → P (set d (place_of i m) k)) → P (dated i m k l d)
-    go Nothing new = old
-    go (E r q v) new = at_place (E r q v) _ refl (new tt)
-    go (S r) new = at_place (S r) _ refl (new tt)
-    go (F r q v) new = at_place (F r q v) _ refl (new tt)
-    go (Decision v) new = at_place (Decision v) _ refl (new tt)
+    go : (m : Option Message) → (IsMessage m → get_or l (place_by i m) 0 ≡ 0 → P (set d (place_by i m) k)) → P (dated i m k l d)
+    go None new = old
+    go (Some (E r q v)) new = at_place (Some (E r q v)) _ refl (new tt)
+    go (Some (S r)) new = at_place (Some (S r)) _ refl (new tt)
+    go (Some (F r q v)) new = at_place (Some (F r q v)) _ refl (new tt)
+    go (Some (Decision v)) new = at_place (Some (Decision v)) _ refl (new tt)
 
-module _ (i : ℕ) (m : Message) (k : ℕ) (l d : List ℕ) where
+module _ (i : ℕ) (m : Option Message) (k : ℕ) (l d : List ℕ) where
   pub dated-length : length (dated i m k l d) ≡ length d
-  dated-length = dating (λ (e : List ℕ). length e ≡ length d) i m k l d refl (λ is z. length-set d (place_of i m) k)
+  dated-length = dating (λ (e : List ℕ). length e ≡ length d) i m k l d refl (λ is z. length-set d (place_by i m) k)
 
   -- at every other place, and where the entry was sent, the depth stays
-  pub dated-other : (q : ℕ) → q ≢ place_of i m → get_or (dated i m k l d) q 0 ≡ get_or d q 0
-  dated-other q ne = dating (λ (e : List ℕ). get_or e q 0 ≡ get_or d q 0) i m k l d refl (λ is z. other d (place_of i m) k q ne)
+  pub dated-other : (q : ℕ) → q ≢ place_by i m → get_or (dated i m k l d) q 0 ≡ get_or d q 0
+  dated-other q ne = dating (λ (e : List ℕ). get_or e q 0 ≡ get_or d q 0) i m k l d refl (λ is z. other d (place_by i m) k q ne)

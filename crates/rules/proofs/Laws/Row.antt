@@ -1,12 +1,13 @@
 -- The laws of the refusal table's rows: rows in a chain, what it means that none refuses, and the rows that a step's parts test. Assumes nothing.
 use mathlib.Core.Path.{◌≡◌, refl, ap, ◌∙◌}
 use mathlib.Core.Bool.{Bool, true, false, ◌&&◌, not}
-use Prim.Native.Nat.{ℕ, zero, suc, ◌≤◌}
+use Rattle.std.specs.Prelude.{Option, Some, None}
+use Prim.Native.Nat.{ℕ, zero, suc, ◌≤◌, ◌<◌}
 use native.Mathlib.Omega.{arith}
 use lib.Dec.{eqb, leb, ltb}
-use borrow.Author.Tests.{leb-true, le-leb, ltb-false, not-false}
+use borrow.Author.Tests.{leb-true, le-leb, lt-leb, ltb-false, not-false}
 use Rattle.rules.specs.declared.step.Step.{Step}
-use Rattle.rules.specs.Limits.{last_round, deepest_message, among}
+use Rattle.rules.specs.Limits.{last_round, deepest_message, among, some_if, if_among}
 use Rattle.rules.specs.Store.{proposer_of}
 use Rattle.rules.specs.Kinds.{numbers_of}
 use Rattle.rules.specs.Refusals.{row, every, late}
@@ -79,6 +80,49 @@ among-true n m e = (leb-true 1 m (and_left (leb 1 m) (leb m n) e), leb-true m n 
 pub among_in : (n m : ℕ) → 1 ≤ m → m ≤ n → among n m ≡ true
 unfolding among
 among_in n m a b = and_both (leb 1 m) (leb m n) (le-leb 1 m a) (le-leb m n b)
+
+-- 0 and what is above n are none
+pub among-zero : (n : ℕ) {m : ℕ} → m ≡ 0 → among n m ≡ false
+unfolding among
+among-zero n e = rw e
+
+pub among-above : (n m : ℕ) → n < m → among n m ≡ false
+unfolding among
+among-above n m lt = and_false (leb 1 m) (lt-leb m n lt)
+  where
+    and_false : (a : Bool) {b : Bool} → b ≡ false → (a && b) ≡ false
+    and_false true e = e
+    and_false false e = refl
+
+-- so the number itself, or none
+pub none-among : (n m : ℕ) → among n m ≡ false → None ≡ if_among n m
+unfolding some_if
+none-among n m e = rw e
+
+pub is-among : (n m : ℕ) → 1 ≤ m → m ≤ n → Some m ≡ if_among n m
+unfolding some_if
+is-among n m a b = rw (among_in n m a b)
+
+-- and what either says
+pub some-false : (n m : ℕ) → if_among n m ≡ None → among n m ≡ false
+unfolding some_if
+some-false n m e = go (among n m) refl
+  where
+    go : (b : Bool) → among n m ≡ b → b ≡ false
+    go true x = let y : Some m ≡ None = rw x at e in let z : ◌≡◌ {A = ℕ} 0 1 = cc in absurd (omega arith)
+    go false x = refl
+
+pub some-true : (n m : ℕ) {k : ℕ} → if_among n m ≡ Some k → (k ≡ m) × (1 ≤ k) × (k ≤ n)
+unfolding some_if
+some-true n m {k} e = go (among n m) refl
+  where
+    go : (b : Bool) → among n m ≡ b → (k ≡ m) × (1 ≤ k) × (k ≤ n)
+    go true x =
+        let y : Some m ≡ Some k = rw x at e in
+        let same : m ≡ k = cc in
+        let t = among-true n m x in
+        (omega (arith, same), omega (arith, same, t.0), omega (arith, same, t.1))
+    go false x = let y : ◌≡◌ {A = Option ℕ} None (Some k) = rw x at e in let z : ◌≡◌ {A = ℕ} 0 1 = cc in absurd (omega arith)
 
 -- a message to i from j, of round r
 pub record Delivered (n i j r : ℕ) : Type 0 where

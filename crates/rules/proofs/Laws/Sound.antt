@@ -1,4 +1,5 @@
 -- A sound group: the plain facts behind the table's row 2, that every event keeps them, and so that every step leaves a sound group sound. Assumes nothing.
+use Rattle.std.specs.Prelude.{Option, Some, None}
 use mathlib.Core.Path.{◌≡◌, refl, sym, ap, subst, ◌∙◌}
 use mathlib.Core.Bool.{Bool, true, false, ◌&&◌, ◌||◌, not}
 use mathlib.Core.List.{List, [], ◌∷◌}
@@ -14,7 +15,7 @@ use Rattle.rules.specs.declared.group.Group.{Group}
 use Rattle.rules.specs.declared.process.Process.{Process}
 use Rattle.rules.specs.declared.process.Next.{Next}
 use Rattle.rules.specs.declared.process.Message.{Message}
-use Rattle.rules.specs.declared.process.Message.TheVariants.{Nothing, E, S, F, Decision}
+use Rattle.rules.specs.declared.process.Message.TheVariants.{E, S, F, Decision}
 use Rattle.rules.specs.declared.step.Step.{Step}
 use Rattle.rules.specs.declared.step.Step.TheVariants.{DeliverE, DeliverS, DeliverF, DeliverDecision, Suspect, Pause, Crash, Recover}
 use Rattle.rules.specs.Refusals.{row, all_of, every, short, whole, strange, late, down, unsent, misnamed, impossible, recovers_past, enters_past, miscounted}
@@ -25,6 +26,7 @@ use Rattle.rules.specs.Limits.{greatest_size, last_round, store_length, coordina
 use Rattle.rules.specs.Tally.{meets, within}
 use Rattle.rules.specs.Layout.{process_at, with_process, Sized, blank_group}
 use Rattle.rules.specs.Store.{proposer_of, value_of, message_round, entry_for, hand_over, one, sent_in}
+use Rattle.rules.proofs.Laws.Store.{entry_by}
 use Rattle.rules.specs.Events.{takes, enters, joins_estimates, joins_suspicions, decides, second_phase, marks, paused, crashed, recovered, quiet, changed, jumps_if, jumps, relays_if, relays, decides_if, decides_at, goes_to_phase2, goes_to_phase2_if, to_phase2, adopts_if, adopts, opens_if, opens, enters_next_if, enters_next_at, on_e, on_s, on_f, on_decision, on_suspect, on_pause, on_crash, on_recover, cut_if}
 use Rattle.rules.specs.Kinds.{taker_of, numbers_of, round_of, delivers, is_cut, entry_in, event_of}
 use Rattle.rules.specs.Idle.{idle}
@@ -120,12 +122,12 @@ module _ (g : Group) where
 -- ---- the stages of an event
 
 -- the estimate that a message carries has a proposer of 1..n
-abbrev pub Named : ℕ → Message → Type 0
-Named n Nothing = Unit {0}
-Named n (E r q v) = (1 ≤ q) × (q ≤ n)
-Named n (S r) = Unit {0}
-Named n (F r q v) = (1 ≤ q) × (q ≤ n)
-Named n (Decision v) = Unit {0}
+abbrev pub Named : ℕ → Option Message → Type 0
+Named n None = Unit {0}
+Named n (Some (E r q v)) = (1 ≤ q) × (q ≤ n)
+Named n (Some (S r)) = Unit {0}
+Named n (Some (F r q v)) = (1 ≤ q) × (q ≤ n)
+Named n (Some (Decision v)) = Unit {0}
 
 -- a next record that is whole up to round b, with messages to match: the first of a round, the second of the record's own at most
 pub record Good (b n : ℕ) (x : Next) : Type 0 where
@@ -591,13 +593,13 @@ step_by P g l s a b = go (course g l s) (course-fine g l s)
     go (Takes i x) f = b i x f
 
 -- a message that names its proposer has an entry that is not 0
-pub named-entry : (n i : ℕ) (m : Message) → 1 ≤ i → Named n m → IsMessage m → entry_for i m ≢ 0
+pub named-entry : (n i : ℕ) (m : Option Message) → 1 ≤ i → Named n m → IsMessage m → entry_by i m ≢ 0
 unfolding entry_for
-named-entry n i Nothing lo h is e = is
-named-entry n i (E r q v) lo h is e = entry-nonzero q v h.0 e
-named-entry n i (S r) lo h is e = entry-nonzero i 0 lo e
-named-entry n i (F r q v) lo h is e = entry-nonzero q v h.0 e
-named-entry n i (Decision v) lo h is e = entry-nonzero i v lo e
+named-entry n i None lo h is e = is
+named-entry n i (Some (E r q v)) lo h is e = entry-nonzero q v h.0 e
+named-entry n i (Some (S r)) lo h is e = entry-nonzero i 0 lo e
+named-entry n i (Some (F r q v)) lo h is e = entry-nonzero q v h.0 e
+named-entry n i (Some (Decision v)) lo h is e = entry-nonzero i v lo e
 
 -- a whole process put into a sound group
 pub sound-with : (g : Group) (i : ℕ) (p : Process) → Sized g → Sound g → 1 ≤ i → i ≤ g.n → Whole g.n p → Sound (with_process g i p)

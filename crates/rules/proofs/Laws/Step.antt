@@ -5,11 +5,10 @@ use Prim.Native.Nat.{ℕ}
 use lib.Dec.{ltb}
 use Rattle.rules.specs.declared.process.Process.{Process}
 use Rattle.rules.specs.declared.process.Next.{Next}
-use Rattle.rules.specs.declared.course.Way.{Way}
 use Rattle.rules.specs.Limits.{last_round, too_many}
 use Rattle.rules.specs.Events.{cut_if, on_suspect, on_recover}
 use Rattle.rules.specs.Step.{Refuses, Takes, idles, or_idle}
-use Rattle.rules.specs.Private.{or_past, unless_past, or_impossible, unless_many, or_up, lifted, lift_unless}
+use Rattle.rules.specs.Private.{Stops, Moves, or_past, unless_past, or_impossible, unless_many, or_up, lifted, lift_unless}
 
 module _ (cut : Bool) (i : ℕ) (p : Process) (x : Next) (k : ℕ) where
   -- a delivery that is idle, and one that is heard and lifts the depth to k
@@ -17,7 +16,7 @@ module _ (cut : Bool) (i : ℕ) (p : Process) (x : Next) (k : ℕ) where
   unfolding or_idle lift_unless
   way-idle e = rw e
 
-  pub way-heard : {b : Bool} → b ≡ false → Way.Takes i (cut_if cut x) k ≡ lifted (lift_unless b k) (or_idle b cut i p x)
+  pub way-heard : {b : Bool} → b ≡ false → Moves i (cut_if cut x) k ≡ lifted (lift_unless b k) (or_idle b cut i p x)
   unfolding or_idle lift_unless lifted
   way-heard e = rw e
 
@@ -26,11 +25,11 @@ module _ (cut : Bool) (i : ℕ) (p : Process) (x : Next) (k : ℕ) where
   unfolding or_past lift_unless
   past-idle e = rw e
 
-  pub past-yes : {b : Bool} → b ≡ false → ltb last_round x.process.round ≡ true → Way.Refuses 8 ≡ lifted (lift_unless b k) (or_past b cut i p x)
+  pub past-yes : {b : Bool} → b ≡ false → ltb last_round x.process.round ≡ true → Stops 8 ≡ lifted (lift_unless b k) (or_past b cut i p x)
   unfolding or_past unless_past lifted
   past-yes e t = rw (e, t)
 
-  pub past-no : {b : Bool} → b ≡ false → ltb last_round x.process.round ≡ false → Way.Takes i (cut_if cut x) k ≡ lifted (lift_unless b k) (or_past b cut i p x)
+  pub past-no : {b : Bool} → b ≡ false → ltb last_round x.process.round ≡ false → Moves i (cut_if cut x) k ≡ lifted (lift_unless b k) (or_past b cut i p x)
   unfolding or_past unless_past lift_unless lifted
   past-no e t = rw (e, t)
 

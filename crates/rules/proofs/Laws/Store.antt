@@ -1,4 +1,5 @@
 -- The laws of the store's places, of an entry, of one write, of a cleared store, and of handing over. Assumes nothing.
+use Rattle.std.specs.Prelude.{Option, Some, None}
 use mathlib.Core.Path.{◌≡◌, refl, ap, ◌∙◌}
 use mathlib.Core.List.{List, [], ◌∷◌, ◌++◌}
 use mathlib.Core.Logic.{◌≢◌}
@@ -8,7 +9,7 @@ use lib.ListN.{length, get_or, set, drop, replicate, length-set, length-append, 
 use lib.Seq.{get_or-set_same, get_or-set_other, get_or-append-add, get_or-drop}
 use borrow.Author.Fill.{fill_none, fill_more}
 use Rattle.rules.specs.declared.process.Message.{Message}
-use Rattle.rules.specs.declared.process.Message.TheVariants.{Nothing, E, S, F, Decision}
+use Rattle.rules.specs.declared.process.Message.TheVariants.{E, S, F, Decision}
 use Rattle.rules.specs.Limits.{greatest_size, last_round, store_length}
 use Rattle.rules.specs.Start.{first_message, opened}
 use Rattle.rules.specs.Store.{slot, decision_slot, entry_of, proposer_of, value_of, place_of, message_round, entry_for, hand_over, one, sent_bit, repeats, cleared, sent_in}
@@ -140,60 +141,62 @@ cleared-sent (suc n) (x ∷ l) h = let ih = cleared-sent n l (omega arith) in om
 
 -- ---- handing over
 
--- a message, and not none
-abbrev pub IsMessage : Message → Type 0
-IsMessage Nothing = ⊥
-IsMessage (E r q v) = Unit {0}
-IsMessage (S r) = Unit {0}
-IsMessage (F r q v) = Unit {0}
-IsMessage (Decision v) = Unit {0}
+-- a message, and not none; its place and its entry, where it is one
+abbrev pub IsMessage : Option Message → Type 0
+IsMessage None = ⊥
+IsMessage (Some m) = Unit {0}
 
-pub place-lt : (i : ℕ) (m : Message) → i ≤ greatest_size → message_round m ≤ last_round → place_of i m < store_length
+abbrev pub place_by : ℕ → Option Message → ℕ
+place_by i None = 0
+place_by i (Some m) = place_of i m
+
+abbrev pub entry_by : ℕ → Option Message → ℕ
+entry_by i None = 0
+entry_by i (Some m) = entry_for i m
+
+pub place-lt : (i : ℕ) (m : Option Message) → i ≤ greatest_size → message_round m ≤ last_round → place_by i m < store_length
 unfolding place_of message_round
-place-lt i Nothing a b = omega arith
-place-lt i (E r q v) a b = omega arith
-place-lt i (S r) a b = omega arith
-place-lt i (F r q v) a b = omega arith
-place-lt i (Decision v) a b = omega arith
+place-lt i None a b = omega arith
+place-lt i (Some (E r q v)) a b = omega arith
+place-lt i (Some (S r)) a b = omega arith
+place-lt i (Some (F r q v)) a b = omega arith
+place-lt i (Some (Decision v)) a b = omega arith
 
 -- what is true of the store itself with nothing counted, and of the store with the entry written, one message, and one repeat where its old entry is sent, is true after handing over
-pub counting : (P : List ℕ → ℕ → ℕ → Type 0) (i : ℕ) (m : Message) (l : List ℕ) → (¬ IsMessage m → P l 0 0)
-    → (IsMessage m → P (set l (place_of i m) (entry_for i m)) 1 (sent_bit (get_or l (place_of i m) 0)))
+pub counting : (P : List ℕ → ℕ → ℕ → Type 0) (i : ℕ) (m : Option Message) (l : List ℕ) → (¬ IsMessage m → P l 0 0)
+    → (IsMessage m → P (set l (place_by i m) (entry_by i m)) 1 (sent_bit (get_or l (place_by i m) 0)))
     → P (hand_over i m l) (length (one i m)) (repeats i m l)
 unfolding hand_over one repeats
-counting P i Nothing l a b = a (λ x. x)
-counting P i (E r q v) l a b = b tt
-counting P i (S r) l a b = b tt
-counting P i (F r q v) l a b = b tt
-counting P i (Decision v) l a b = b tt
+counting P i None l a b = a (λ x. x)
+counting P i (Some m) l a b = b tt
 
 -- so of the store alone
-pub handing : (P : List ℕ → Type 0) (i : ℕ) (m : Message) (l : List ℕ) → (¬ IsMessage m → P l) → (IsMessage m → P (set l (place_of i m) (entry_for i m)))
+pub handing : (P : List ℕ → Type 0) (i : ℕ) (m : Option Message) (l : List ℕ) → (¬ IsMessage m → P l) → (IsMessage m → P (set l (place_by i m) (entry_by i m)))
     → P (hand_over i m l)
 handing P = counting (λ k s t. P k)
 
-module _ (i : ℕ) (m : Message) (l : List ℕ) where
+module _ (i : ℕ) (m : Option Message) (l : List ℕ) where
   -- at most one message is counted, and a repeat is one
   pub counted-once : (length (one i m) ≤ 1) × (repeats i m l ≤ length (one i m))
   counted-once =
-      counting (λ k s t. (s ≤ 1) × (t ≤ s)) i m l (λ no. (omega arith, omega arith)) (λ is. (omega arith, bit-most (get_or l (place_of i m) 0)))
+      counting (λ k s t. (s ≤ 1) × (t ≤ s)) i m l (λ no. (omega arith, omega arith)) (λ is. (omega arith, bit-most (get_or l (place_by i m) 0)))
 
   -- the store keeps its length
   pub hand_over-length : length (hand_over i m l) ≡ length l
   hand_over-length =
-      handing (λ (k : List ℕ). length k ≡ length l) i m l (λ no. refl) (λ is. length-set l (place_of i m) (entry_for i m))
+      handing (λ (k : List ℕ). length k ≡ length l) i m l (λ no. refl) (λ is. length-set l (place_by i m) (entry_by i m))
 
   -- the message's own place has its entry
-  pub hand_over-own : IsMessage m → place_of i m < length l → get_or (hand_over i m l) (place_of i m) 0 ≡ entry_for i m
+  pub hand_over-own : IsMessage m → place_by i m < length l → get_or (hand_over i m l) (place_by i m) 0 ≡ entry_by i m
   hand_over-own is lt =
-      handing (λ (k : List ℕ). get_or k (place_of i m) 0 ≡ entry_for i m) i m l (λ no. absurd (no is))
-      (λ is. own l (place_of i m) (entry_for i m) lt)
+      handing (λ (k : List ℕ). get_or k (place_by i m) 0 ≡ entry_by i m) i m l (λ no. absurd (no is))
+      (λ is. own l (place_by i m) (entry_by i m) lt)
 
   -- any other place has the old one
-  pub hand_over-other : (s : ℕ) → s ≢ place_of i m → get_or (hand_over i m l) s 0 ≡ get_or l s 0
+  pub hand_over-other : (s : ℕ) → s ≢ place_by i m → get_or (hand_over i m l) s 0 ≡ get_or l s 0
   hand_over-other s ne =
       handing (λ (k : List ℕ). get_or k s 0 ≡ get_or l s 0) i m l (λ no. refl)
-      (λ is. other l (place_of i m) (entry_for i m) s ne)
+      (λ is. other l (place_by i m) (entry_by i m) s ne)
 
   module _ (hi : i ≤ greatest_size) (le : message_round m ≤ last_round) where
     -- entries past the store are not touched
@@ -201,28 +204,28 @@ module _ (i : ℕ) (m : Message) (l : List ℕ) where
     hand_over-past s h = hand_over-other s (omega (arith, place-lt i m hi le))
 
     -- the messages handed over are the entries that turn from 0 and the repeats
-    pub hand_over-sent : store_length ≤ length l → (IsMessage m → entry_for i m ≢ 0)
+    pub hand_over-sent : store_length ≤ length l → (IsMessage m → entry_by i m ≢ 0)
         → sent_in (hand_over i m l) store_length + repeats i m l ≡ sent_in l store_length + length (one i m)
     hand_over-sent long ne =
         counting (λ k s t. sent_in k store_length + t ≡ sent_in l store_length + s) i m l (λ no. omega arith)
-        (λ is. omega (arith, sent-set l (place_of i m) (entry_for i m) store_length (place-lt i m hi le) long, bit-sent (entry_for i m) (ne is)))
+        (λ is. omega (arith, sent-set l (place_by i m) (entry_by i m) store_length (place-lt i m hi le) long, bit-sent (entry_by i m) (ne is)))
 
     -- where the entry was 0 one more is sent, and never fewer
-    pub hand_over-new : store_length ≤ length l → (IsMessage m → entry_for i m ≢ 0) → IsMessage m → get_or l (place_of i m) 0 ≡ 0
+    pub hand_over-new : store_length ≤ length l → (IsMessage m → entry_by i m ≢ 0) → IsMessage m → get_or l (place_by i m) 0 ≡ 0
         → sent_in (hand_over i m l) store_length ≡ sent_in l store_length + 1
     hand_over-new long ne is z =
         handing (λ k. sent_in k store_length ≡ sent_in l store_length + 1) i m l (λ no. absurd (no is))
-        (λ is. sent-more l (place_of i m) (entry_for i m) store_length (place-lt i m hi le) long (ne is) z)
+        (λ is. sent-more l (place_by i m) (entry_by i m) store_length (place-lt i m hi le) long (ne is) z)
 
-    pub hand_over-more : store_length ≤ length l → (IsMessage m → entry_for i m ≢ 0) → sent_in l store_length ≤ sent_in (hand_over i m l) store_length
+    pub hand_over-more : store_length ≤ length l → (IsMessage m → entry_by i m ≢ 0) → sent_in l store_length ≤ sent_in (hand_over i m l) store_length
     hand_over-more long ne =
         handing (λ k. sent_in l store_length ≤ sent_in k store_length) i m l (λ no. omega arith)
         (λ is.
         omega (
           arith,
-          sent-set l (place_of i m) (entry_for i m) store_length (place-lt i m hi le) long,
-          bit-sent (entry_for i m) (ne is),
-          bit-most (get_or l (place_of i m) 0),
+          sent-set l (place_by i m) (entry_by i m) store_length (place-lt i m hi le) long,
+          bit-sent (entry_by i m) (ne is),
+          bit-most (get_or l (place_by i m) 0),
         ))
 
 -- ---- the store of a start: process 1's first message, and nothing else
@@ -230,21 +233,21 @@ module _ (i : ℕ) (m : Message) (l : List ℕ) where
 module _ (v : ℕ) (l : List ℕ) (long : store_length ≤ length l) where
   pub opened-length : length (opened v l) ≡ length l
   unfolding opened
-  opened-length = hand_over-length 1 (first_message v) (cleared store_length l) ∙ cleared-length store_length l long
+  opened-length = hand_over-length 1 (Some (first_message v)) (cleared store_length l) ∙ cleared-length store_length l long
 
   pub opened-own : get_or (opened v l) 0 0 ≡ entry_of 1 v
   unfolding opened place_of entry_for
   opened-own =
-      hand_over-own 1 (first_message v) (cleared store_length l) tt (omega (arith, cleared-length store_length l long))
+      hand_over-own 1 (Some (first_message v)) (cleared store_length l) tt (omega (arith, cleared-length store_length l long))
 
   pub opened-other : (s : ℕ) → s ≢ 0 → s < store_length → get_or (opened v l) s 0 ≡ 0
   unfolding opened place_of
-  opened-other s ne lt = hand_over-other 1 (first_message v) (cleared store_length l) s ne ∙ cleared-below store_length l s lt
+  opened-other s ne lt = hand_over-other 1 (Some (first_message v)) (cleared store_length l) s ne ∙ cleared-below store_length l s lt
 
   pub opened-past : (s : ℕ) → store_length ≤ s → get_or (opened v l) s 0 ≡ get_or l s 0
   unfolding opened place_of
   opened-past s le =
-      hand_over-other 1 (first_message v) (cleared store_length l) s (omega arith) ∙ cleared-past store_length l s le
+      hand_over-other 1 (Some (first_message v)) (cleared store_length l) s (omega arith) ∙ cleared-past store_length l s le
 
   pub opened-sent : sent_in (opened v l) store_length ≡ 1
   unfolding opened message_round entry_for place_of
@@ -252,7 +255,7 @@ module _ (v : ℕ) (l : List ℕ) (long : store_length ≤ length l) where
       let room = cleared-length store_length l long in
       omega (
         arith,
-        hand_over-new 1 (first_message v) (cleared store_length l) (omega arith) (omega arith) (omega arith) (λ is. entry-nonzero 1 v (omega arith)) tt
+        hand_over-new 1 (Some (first_message v)) (cleared store_length l) (omega arith) (omega arith) (omega arith) (λ is. entry-nonzero 1 v (omega arith)) tt
             (cleared-below store_length l 0 (omega arith)),
         cleared-sent store_length l long,
       )

@@ -1,5 +1,9 @@
 -- The way of a step is its course with what lifts a depth; a handing over goes by the message's spot. Assumes nothing.
-use mathlib.Core.Path.{◌≡◌, refl, sym, ap, ap₂, ◌∙◌}
+use Rattle.std.specs.Prelude.{Option, Some, None, is_some, length}
+use Rattle.rules.specs.declared.refusal.Refusal.{Refusal}
+use Rattle.rules.specs.declared.refusal.Refusal.TheVariants.{Values, Damaged, NoProcess, NoRound, Down, NotSent, NotPossible, PastLastRound, ShortStore, TooManyRecoveries, TooDeep}
+use Rattle.rules.specs.Answers.{number_of}
+use mathlib.Core.Path.{◌≡◌, refl, sym, ap, ap₂, subst, ◌∙◌}
 use mathlib.Core.Bool.{Bool, true, false, not}
 use mathlib.Core.List.{List}
 use Prim.Native.Nat.{ℕ, ◌+◌, ◌≤◌, ◌<◌, max}
@@ -10,39 +14,37 @@ use Rattle.rules.specs.declared.group.Group.{Group}
 use Rattle.rules.specs.declared.process.Process.{Process}
 use Rattle.rules.specs.declared.process.Next.{Next}
 use Rattle.rules.specs.declared.process.Message.{Message}
-use Rattle.rules.specs.declared.process.Message.TheVariants.{Nothing, E, S, F, Decision}
-use Rattle.rules.specs.declared.course.Way.{Way}
 use Rattle.rules.specs.declared.store.Spot.{Spot}
 use Rattle.rules.specs.declared.step.Step.{Step}
 use Rattle.rules.specs.declared.step.Step.TheVariants.{DeliverE, DeliverS, DeliverF, DeliverDecision, Suspect, Pause, Crash, Recover}
-use Rattle.rules.specs.Limits.{greatest_size, last_round, store_length, deepest_message, deepest_process}
+use Rattle.rules.specs.Limits.{deepest_message, deepest_process}
 use Rattle.rules.specs.Layout.{process_at, depth_at}
-use Rattle.rules.specs.Store.{place_of, message_round, hand_over, one, sent_bit, repeats}
+use Rattle.rules.specs.Store.{hand_over, one, sent_bit, repeats}
 use Rattle.rules.specs.declared.store.Traffic.{Traffic}
-use Rattle.rules.specs.Kinds.{taker_of, delivers, entry_in}
+use Rattle.rules.specs.Kinds.{taker_of, delivers, slot_of, entry_in}
 use Rattle.rules.specs.Idle.{idle, idle_e, idle_s, idle_f}
 use Rattle.rules.specs.Depths.{delivered_depth, raises, raised, depth_after, dated_at, dated}
-use Rattle.rules.specs.Refusals.{too_deep}
+use Rattle.rules.specs.Refusals.{too_deep, is_recover}
 use Rattle.rules.specs.Step.{Course, Idles, Refuses, Takes, course, settled, stepped, Ready}
 use Rattle.rules.proofs.Laws.Course.{held-course, taken-outcome}
 use Rattle.rules.proofs.Laws.Passing.{course-takes}
-use Rattle.rules.specs.Private.{number_rows, held_course, lifted, lift_unless, lifts, lift_of, spot_of, HandsOver, HandsOverBoth}
+use Rattle.rules.specs.Private.{Rests, Stops, Moves, place_or, Placed, heard_at, entry_heard, depth_heard, number_rows, held_rows, last_course, held_course, lifted, lift_unless, lifts, lift_of, spot_of, HandsOver, HandsOverBoth}
 
 -- ---- which course a way has
 
-pub way-idles : (k : ℕ) (c : Course) → lifted k c ≡ Way.Idles → c ≡ Idles
+pub way-idles : (k : ℕ) (c : Course) → lifted k c ≡ Rests → c ≡ Idles
 unfolding lifted
 way-idles k Idles e = refl
 way-idles k (Refuses j) e = let z : ◌≡◌ {A = ℕ} 0 1 = cc in absurd (omega arith)
 way-idles k (Takes i x) e = let z : ◌≡◌ {A = ℕ} 0 1 = cc in absurd (omega arith)
 
-pub way-refuses : (k : ℕ) (c : Course) {j : ℕ} → lifted k c ≡ Way.Refuses j → c ≡ Refuses j
+pub way-refuses : (k : ℕ) (c : Course) {j : ℕ} → lifted k c ≡ Stops j → c ≡ Refuses j
 unfolding lifted
 way-refuses k Idles e = let z : ◌≡◌ {A = ℕ} 0 1 = cc in absurd (omega arith)
 way-refuses k (Refuses j) e = cc
 way-refuses k (Takes i x) e = let z : ◌≡◌ {A = ℕ} 0 1 = cc in absurd (omega arith)
 
-pub way-takes : (k : ℕ) (c : Course) {i m : ℕ} {x : Next} → lifted k c ≡ Way.Takes i x m → (c ≡ Takes i x) × (k ≡ m)
+pub way-takes : (k : ℕ) (c : Course) {i m : ℕ} {x : Next} → lifted k c ≡ Moves i x m → (c ≡ Takes i x) × (k ≡ m)
 unfolding lifted
 way-takes k Idles e = let z : ◌≡◌ {A = ℕ} 0 1 = cc in absurd (omega arith)
 way-takes k (Refuses j) e = let z : ◌≡◌ {A = ℕ} 0 1 = cc in absurd (omega arith)
@@ -77,6 +79,53 @@ pub lift-held : (g : Group) (l d : List ℕ) (s : Step) {i e k : ℕ} {p : Proce
 unfolding lift_of
 lift-held g l d s h z hi he hk hp = ap₂ lifted (ap₂ (λ (q : Process) (m : ℕ). lifts q s (m + 1)) hp hk) (held-course g l d s h z hi he hk hp)
 
+-- a step that delivers nothing asks nothing of an entry and of a depth
+unheard : (n i : ℕ) (p : Process) (s : Step) (e e' k k' : ℕ) → delivers s ≡ false
+    → lifted (lifts p s (k + 1)) (held_course n i e k p s) ≡ lifted (lifts p s (k' + 1)) (held_course n i e' k' p s)
+unfolding lifts held_course held_rows last_course delivers is_recover
+unheard n i p (DeliverE t j r c) e e' k k' z = let y : ◌≡◌ {A = ℕ} 0 1 = cc in absurd (omega arith)
+unheard n i p (DeliverS t j r c) e e' k k' z = let y : ◌≡◌ {A = ℕ} 0 1 = cc in absurd (omega arith)
+unheard n i p (DeliverF t j r c) e e' k k' z = let y : ◌≡◌ {A = ℕ} 0 1 = cc in absurd (omega arith)
+unheard n i p (DeliverDecision t j c) e e' k k' z = let y : ◌≡◌ {A = ℕ} 0 1 = cc in absurd (omega arith)
+unheard n i p (Suspect t c) e e' k k' z = refl
+unheard n i p (Pause t) e e' k k' z = refl
+unheard n i p (Crash t) e e' k k' z = refl
+unheard n i p (Recover t) e e' k k' z = refl
+
+-- so the way over what a step hears: the message at its place, if it delivers one
+pub heard-held : (g : Group) (l d : List ℕ) (s : Step) (o : Option ℕ) {i : ℕ} {p : Process} → Ready g l d → number_rows g.n s ≡ 0
+    → i ≡ taker_of s → place_or o ≡ slot_of s → is_some o ≡ delivers s → p ≡ process_at g (taker_of s)
+    → lifted (lifts p s (depth_heard (heard_at o l d) + 1)) (held_course g.n i (entry_heard (heard_at o l d)) (depth_heard (heard_at o l d)) p s) ≡ lifted (lift_of g d s) (course g l d s)
+unfolding heard_at entry_heard depth_heard place_or entry_in delivered_depth
+heard-held g l d s (Some k) h z hi hk hd hp = lift-held g l d s h z hi (ap (λ (j : ℕ). get_or l j 0) hk) (ap (λ (j : ℕ). get_or d j 0) hk) hp
+heard-held g l d s None {i} {p} h z hi hk hd hp =
+    unheard g.n i p s 0 (entry_in l s) 0 (delivered_depth d s) (sym hd) ∙ lift-held g l d s h z hi refl refl hp
+
+pub heard-is : (o : Option ℕ) (l d : List ℕ) → is_some (heard_at o l d) ≡ is_some o
+unfolding heard_at
+heard-is None l d = refl
+heard-is (Some k) l d = refl
+
+pub placed : (o : Option ℕ) (l d : List ℕ) {k : ℕ} → place_or o ≡ k → k < length l → k < length d → Placed o l d
+unfolding place_or
+placed None l d e a b = tt
+placed (Some j) l d e a b = (omega (arith, e, a), omega (arith, e, b))
+
+-- the number of a refusal is not 0
+pub number-some : (r : Refusal) → ¬ (number_of r ≡ 0)
+unfolding number_of
+number-some Values e = omega (arith, e)
+number-some Damaged e = omega (arith, e)
+number-some NoProcess e = omega (arith, e)
+number-some NoRound e = omega (arith, e)
+number-some Down e = omega (arith, e)
+number-some NotSent e = omega (arith, e)
+number-some NotPossible e = omega (arith, e)
+number-some PastLastRound e = omega (arith, e)
+number-some ShortStore e = omega (arith, e)
+number-some TooManyRecoveries e = omega (arith, e)
+number-some TooDeep e = omega (arith, e)
+
 -- it is small where the message is not too deep
 unless-small : (b : Bool) (m : ℕ) → m ≤ deepest_message → lift_unless b (m + 1) ≤ deepest_process
 unfolding lift_unless
@@ -94,7 +143,7 @@ lift-small g d (Pause i) h = omega arith
 lift-small g d (Crash i) h = omega arith
 lift-small g d (Recover i) h = omega arith
 
-module _ (g : Group) (l d : List ℕ) (s : Step) {i k : ℕ} {x : Next} (e : lifted (lift_of g d s) (course g l d s) ≡ Way.Takes i x k) where
+module _ (g : Group) (l d : List ℕ) (s : Step) {i k : ℕ} {x : Next} (e : lifted (lift_of g d s) (course g l d s) ≡ Moves i x k) where
   -- a step that is taken lifts to no more than a process can have
   pub taken-lift : k ≤ deepest_process
   taken-lift =
@@ -110,29 +159,21 @@ module _ (g : Group) (l d : List ℕ) (s : Step) {i k : ℕ} {x : Next} (e : lif
 -- ---- handing over by the message's spot
 
 module _ (i k : ℕ) (l d : List ℕ) where
-  pub hands-nothing : (m : Message) → spot_of i m ≡ Spot.Nowhere → HandsOver i m k l d l d (record { sent = 0; again = 0 })
-  unfolding spot_of hand_over dated one repeats
-  hands-nothing Nothing e = record { store = refl; depths = refl; sent = refl; again = refl }
-  hands-nothing (E r q v) e = let z : ◌≡◌ {A = ℕ} 0 1 = cc in absurd (omega arith)
-  hands-nothing (S r) e = let z : ◌≡◌ {A = ℕ} 0 1 = cc in absurd (omega arith)
-  hands-nothing (F r q v) e = let z : ◌≡◌ {A = ℕ} 0 1 = cc in absurd (omega arith)
-  hands-nothing (Decision v) e = let z : ◌≡◌ {A = ℕ} 0 1 = cc in absurd (omega arith)
+  pub hands-nothing : HandsOver i None k l d l d (record { sent = 0; again = 0 })
+  unfolding hand_over dated one repeats
+  hands-nothing = record { store = refl; depths = refl; sent = refl; again = refl }
 
   -- what writing an entry at a place leaves
-  abbrev Writes : ℕ → ℕ → List ℕ → List ℕ → ℕ → Type 0
-  Writes at e l' d' again = (l' ≡ set l at e) × (d' ≡ dated_at at k l d) × (again ≡ sent_bit (get_or l at 0))
-
-  pub hands-spot : (m : Message) {at e again : ℕ} {l' d' : List ℕ} → spot_of i m ≡ Spot.At at e → Writes at e l' d' again
-      → HandsOver i m k l d l' d' (record { sent = 1; again = again })
-  unfolding spot_of hand_over dated one repeats
-  hands-spot Nothing h w = let z : ◌≡◌ {A = ℕ} 0 1 = cc in absurd (omega arith)
-  hands-spot (E r q v) h w = record { store = cc; depths = cc; sent = refl; again = cc }
-  hands-spot (S r) h w = record { store = cc; depths = cc; sent = refl; again = cc }
-  hands-spot (F r q v) h w = record { store = cc; depths = cc; sent = refl; again = cc }
-  hands-spot (Decision v) h w = record { store = cc; depths = cc; sent = refl; again = cc }
+  pub hands-one : (m : Message) {s : Spot} {again : ℕ} {l' d' : List ℕ} → s ≡ spot_of i m
+      → (l' ≡ set l s.place s.entry) × (d' ≡ dated_at s.place k l d) × (again ≡ sent_bit (get_or l s.place 0))
+      → HandsOver i (Some m) k l d l' d' (record { sent = 1; again = again })
+  unfolding hand_over dated one repeats
+  hands-one m {s} {again} {l'} {d'} e w =
+      let v = subst (λ (t : Spot). (l' ≡ set l t.place t.entry) × (d' ≡ dated_at t.place k l d) × (again ≡ sent_bit (get_or l t.place 0))) e w in
+      record { store = v.0; depths = v.1; sent = refl; again = v.2 }
 
 -- one message, and then another
-pub hands-both : {i k : ℕ} {a b : Traffic} {m m' : Message} {l d once deep last deeper : List ℕ} → HandsOver i m k l d once deep a → HandsOver i m' k once deep last deeper b
+pub hands-both : {i k : ℕ} {a b : Traffic} {m m' : Option Message} {l d once deep last deeper : List ℕ} → HandsOver i m k l d once deep a → HandsOver i m' k once deep last deeper b
     → HandsOverBoth i m m' k l d last deeper (record { sent = a.sent + b.sent; again = a.again + b.again })
 hands-both {i} {k} {a} {b} {m} {m'} h g = record {
   store = g.store ∙ ap (hand_over i m') h.store;
@@ -140,11 +181,3 @@ hands-both {i} {k} {a} {b} {m} {m'} h g = record {
   sent = ap₂ ◌+◌ h.sent g.sent;
   again = ap₂ ◌+◌ h.again (g.again ∙ ap (repeats i m') h.store);
 }
-
-pub spot-low : (i : ℕ) (m : Message) {at e : ℕ} → 1 ≤ i → i ≤ greatest_size → message_round m ≤ last_round → spot_of i m ≡ Spot.At at e → at < store_length
-unfolding spot_of place_of message_round
-spot-low i Nothing a b r h = let z : ◌≡◌ {A = ℕ} 0 1 = cc in absurd (omega arith)
-spot-low i (E r q v) {at} a b g h = let z : place_of i (E r q v) ≡ at = cc in omega arith
-spot-low i (S r) {at} a b g h = let z : place_of i (S r) ≡ at = cc in omega arith
-spot-low i (F r q v) {at} a b g h = let z : place_of i (F r q v) ≡ at = cc in omega arith
-spot-low i (Decision v) {at} a b g h = let z : place_of i (Decision v) ≡ at = cc in omega arith

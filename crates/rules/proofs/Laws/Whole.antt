@@ -1,11 +1,11 @@
 -- The laws of a start and of a step with depths, of any group and any stores: what is refused leaves all as it was, and a sound group over long stores stays so. Assumes nothing.
+use Rattle.std.specs.Prelude.{Some}
 use mathlib.Core.Path.{◌≡◌, refl, sym, ap, subst, ◌∙◌}
 use mathlib.Core.Bool.{Bool, true, false, not, ◌&&◌}
 use mathlib.Core.List.{List}
 use mathlib.Core.Logic.{◌≢◌}
 use Prim.Native.Nat.{ℕ, zero, suc, ◌≤◌}
 use native.Mathlib.Decide.{ℕ_discrete}
-use native.Mathlib.Nat.{le_trans}
 use native.Mathlib.Omega.{arith}
 use lib.Dec.{ltb}
 use lib.ListN.{length, get_or}
@@ -29,7 +29,7 @@ use Rattle.rules.proofs.Laws.Store.{opened-length, cleared-length}
 use Rattle.rules.proofs.Laws.Group.{sized-with, sized-blank, sized-started, started-size}
 use Rattle.rules.proofs.Laws.Sound.{Whole, Sound, Taking, sound-with, sound-started, overs-length}
 use Rattle.rules.proofs.Laws.Passing.{deep-facts, facts-deep, DeepPassed, course-takes, dated-length}
-use Rattle.rules.proofs.Laws.Column.{process-deep, depth-put, depth-kept, sized-deep, depth-with, depth-started}
+use Rattle.rules.proofs.Laws.Group.{process-deep, depth-put, depth-kept, sized-deep, depth-with, depth-started}
 
 -- ---- a step
 
@@ -91,7 +91,7 @@ sound-put g i k p sized e lo hi w le =
     (record {
       low = both.low;
       high = both.high;
-      each = λ j a b. subst (λ (q : Process). Whole g.n q) (sym (process-deep (with_process g i p) i k j (le_trans b both.high))) (both.each j a b);
+      each = λ j a b. subst (λ (q : Process). Whole g.n q) (sym (process-deep (with_process g i p) i k j)) (both.each j a b);
     })
     (λ j a b. go j a b (ℕ_discrete j i))
   where
@@ -110,7 +110,7 @@ sound-put g i k p sized e lo hi w le =
           le,
         )
     go j a b (no ne) =
-        omega (arith, depth-kept (with_process g i p) i k j lo a ne, depth-with g i p j (omega (arith, f.0.high, hi)), f.1 j a b)
+        omega (arith, depth-kept (with_process g i p) i k j lo a ne, depth-with g i p j, f.1 j a b)
 
 module _ (g : Group) (l d : List ℕ) (s : Step) where
   -- the group keeps its size and its columns
@@ -171,10 +171,10 @@ starting vs l d zero e =
       sized = sized-started vs (length vs);
       size = omega (arith, started-size vs (length vs), h.3);
       store = opened-length (get_or vs 0 0) l h.0;
-      depths = dated-length 1 (first_message (get_or vs 0 0)) 0 (cleared store_length l) (cleared store_length d) ∙ cleared-length store_length d h.1;
+      depths = dated-length 1 (Some (first_message (get_or vs 0 0))) 0 (cleared store_length l) (cleared store_length d) ∙ cleared-length store_length d h.1;
       sound = λ z.
           facts-deep (started_to vs (length vs)) (sound-started vs h.2 h.3)
-          (λ i lo hi. omega (arith, depth-started vs (length vs) i h.3 (omega (arith, started-size vs (length vs), h.3))));
+          (λ i lo hi. omega (arith, depth-started vs (length vs) i));
     }
 starting vs l d (suc k) e =
     record { sized = sized-blank 0; size = omega arith; store = refl; depths = refl; sound = λ z. absurd (omega arith) }

@@ -4,7 +4,6 @@ use mathlib.Core.Bool.{Bool, ◌&&◌, not}
 use mathlib.Core.List.{List, [], ◌∷◌, ◌++◌}
 use mathlib.Core.Logic.{◌↔◌, ◌≢◌}
 use Prim.Native.Nat.{ℕ, ◌+◌, ◌≤◌, ◌<◌}
-use native.Mathlib.Nat.{le_trans}
 use native.Mathlib.Omega.{arith}
 use lib.Dec.{eqb}
 use lib.Count.{ones}
@@ -31,9 +30,8 @@ use Rattle.rules.proofs.Bare.Run.{State as Bare, forgotten}
 use Rattle.rules.proofs.Bare.Run as run
 use Rattle.rules.proofs.Bare.Statements as bare
 use Rattle.rules.proofs.Bare.Same.{course-same, refusal-same}
-use Rattle.rules.proofs.Laws.Column.{process-forgets}
-use Rattle.rules.proofs.Laws.Sound.{taker-in}
-use Rattle.rules.proofs.Depths.Basics.{DeepBasic, bare-begins, deep-few, deep-limits, next-forgets, says-forgets, deep-next, start-forgets, deep-start, deep-basic-after, deep-basic}
+use Rattle.rules.proofs.Laws.Group.{process-forgets}
+use Rattle.rules.proofs.Depths.Basics.{DeepBasic, bare-begins, deep-limits, next-forgets, says-forgets, deep-next, start-forgets, deep-start, deep-basic-after, deep-basic}
 use Rattle.rules.proofs.Depths.Basics.{after-forgets, run-forgets, answers_stay, past-depths-kept}
 use Rattle.rules.proofs.Agreement.Agree as agree
 use Rattle.rules.proofs.Runs.Stored as kept
@@ -48,7 +46,7 @@ use Rattle.rules.proofs.Runs.Recoveries as recoveries
 module _ {vs : List ℕ} {a : State} {c : Bare} (h : DeepBasic vs a) (e : forgotten a ≡ c) where
   -- it has the same records
   process-carried : (i : ℕ) → i ≤ greatest_size → bare.process_of c i ≡ process_of a i
-  process-carried i hi = ap (λ (c : Bare). bare.process_of c i) (sym e) ∙ process-forgets a.group i h.sized hi
+  process-carried i hi = ap (λ (c : Bare). bare.process_of c i) (sym e) ∙ process-forgets a.group i
 
   -- the same entries
   store-carried : c.store ≡ a.store
@@ -61,9 +59,9 @@ module _ {vs : List ℕ} {a : State} {c : Bare} (h : DeepBasic vs a) (e : forgot
 -- a process that stays down stays down so
 down-carried : (vs : List ℕ) (a : State) (ts : List Step) (i : ℕ) → DeepBasic vs a → i ≤ greatest_size → DownThrough a ts i → bare.DownThrough (forgotten a) ts i
 unfolding DownThrough bare.DownThrough
-down-carried vs a [] i h hi d = ap (λ (p : Process). p.up) (process-forgets a.group i h.sized hi) ∙ d
+down-carried vs a [] i h hi d = ap (λ (p : Process). p.up) (process-forgets a.group i) ∙ d
 down-carried vs a (s ∷ ts) i h hi d = (
-  ap (λ (p : Process). p.up) (process-forgets a.group i h.sized hi) ∙ d.0,
+  ap (λ (p : Process). p.up) (process-forgets a.group i) ∙ d.0,
   subst (λ (c : Bare). bare.DownThrough c ts i) (next-forgets vs a h s) (down-carried vs (next a s) ts i (deep-next vs a h s) hi d.1),
 )
 
@@ -123,7 +121,7 @@ module _ (vs l d : List ℕ) (ss : List Step) (b : Begins vs l d) where
   unfolding strange down forgetting
   comes-here s c =
       let up : process_of a (taker_of s) ≡ process_at (forgetting a.group) (taker_of s) =
-      sym (process-forgets a.group (taker_of s) h.sized (le_trans (taker-in a.group s c.numbers).1 (deep-few vs a h))) in
+      sym (process-forgets a.group (taker_of s)) in
       subst (λ (x : Bare). Comes x.group s) (run-forgets vs l d ss b)
       (record {
         delivery = c.delivery;

@@ -1,4 +1,5 @@
 -- The cases of a step, for the proofs about runs: which course it takes, what it leaves of one process, and what it leaves of one entry of the store. Assumes nothing.
+use Rattle.std.specs.Prelude.{Option}
 use mathlib.Core.Path.{◌≡◌, refl, sym, ap, subst, ◌∙◌}
 use mathlib.Core.Bool.{Bool, true, false}
 use mathlib.Core.List.{List, [], ◌∷◌}
@@ -17,7 +18,8 @@ use Rattle.rules.proofs.Bare.Run.{State, next, after}
 use Rattle.rules.proofs.Bare.Step.{refusal, course, settled, stepped}
 use Rattle.rules.specs.Limits.{greatest_size, store_length}
 use Rattle.rules.specs.Layout.{process_at, with_process, Sized}
-use Rattle.rules.specs.Store.{place_of, entry_for, hand_over}
+use Rattle.rules.specs.Store.{hand_over}
+use Rattle.rules.proofs.Laws.Store.{place_by, entry_by}
 use Rattle.rules.specs.Events.{crashed, quiet, on_crash, cut_if}
 use Rattle.rules.specs.Kinds.{taker_of, is_cut, event_of}
 use Rattle.rules.specs.Idle.{idle}
@@ -96,23 +98,23 @@ process-by Q g l s i sized lo hi crash old new =
 -- ---- one entry
 
 -- what holds of an entry, and of that of the message where it is one, holds of it after the handing over
-pub handed-by : (Q : ℕ → Type 0) (i : ℕ) (m : Message) (l : List ℕ) (k : ℕ) → place_of i m < length l → (IsMessage m → Q (entry_for i m)) → Q (get_or l k 0)
+pub handed-by : (Q : ℕ → Type 0) (i : ℕ) (m : Option Message) (l : List ℕ) (k : ℕ) → place_by i m < length l → (IsMessage m → Q (entry_by i m)) → Q (get_or l k 0)
     → Q (get_or (hand_over i m l) k 0)
 handed-by Q i m l k lt new old =
-    handing (λ (l' : List ℕ). Q (get_or l' k 0)) i m l (λ no. old) (λ is. written (new is) (ℕ_discrete k (place_of i m)))
+    handing (λ (l' : List ℕ). Q (get_or l' k 0)) i m l (λ no. old) (λ is. written (new is) (ℕ_discrete k (place_by i m)))
   where
-    written : Q (entry_for i m) → Dec (k ≡ place_of i m) → Q (get_or (set l (place_of i m) (entry_for i m)) k 0)
+    written : Q (entry_by i m) → Dec (k ≡ place_by i m) → Q (get_or (set l (place_by i m) (entry_by i m)) k 0)
     written h (yes e) =
-        subst Q (sym (ap (λ (j : ℕ). get_or (set l (place_of i m) (entry_for i m)) j 0) e ∙ own l (place_of i m) (entry_for i m) lt)) h
-    written h (no ne) = subst Q (sym (other l (place_of i m) (entry_for i m) k ne)) old
+        subst Q (sym (ap (λ (j : ℕ). get_or (set l (place_by i m) (entry_by i m)) j 0) e ∙ own l (place_by i m) (entry_by i m) lt)) h
+    written h (no ne) = subst Q (sym (other l (place_by i m) (entry_by i m) k ne)) old
 
 -- of both messages of a process that takes a step
 pub overs-by : (Q : ℕ → Type 0) (n i : ℕ) (x : Next) (l : List ℕ) (k : ℕ) → Taking n i x → store_length ≤ length l
-    → (IsMessage x.first → Q (entry_for i x.first)) → (IsMessage x.second → Q (entry_for i x.second)) → Q (get_or l k 0)
+    → (IsMessage x.first → Q (entry_by i x.first)) → (IsMessage x.second → Q (entry_by i x.second)) → Q (get_or l k 0)
     → Q (get_or (hand_overs i x l) k 0)
 unfolding hand_overs
 overs-by Q n i x l k t long one two old =
-    let room : place_of i x.first < length l = omega (arith, place-lt i x.first t.small t.first) in
-    let more : place_of i x.second < length (hand_over i x.first l) =
+    let room : place_by i x.first < length l = omega (arith, place-lt i x.first t.small t.first) in
+    let more : place_by i x.second < length (hand_over i x.first l) =
     omega (arith, place-lt i x.second t.small t.second, hand_over-length i x.first l) in
     handed-by Q i x.second (hand_over i x.first l) k more two (handed-by Q i x.first l k room one old)

@@ -1,5 +1,6 @@
 -- Statement 5: an entry of the store is not 0 exactly where the start or a step handed its message over, so that refusal 6 comes exactly where none did.
 -- Assumes nothing.
+use Rattle.std.specs.Prelude.{Option, Some, None}
 use mathlib.Core.Path.{◌≡◌, refl, sym, ap, subst, ◌∙◌}
 use mathlib.Core.Bool.{Bool, true, false, not}
 use mathlib.Core.List.{List, [], ◌∷◌, ◌++◌, append-nil, append_assoc}
@@ -13,7 +14,7 @@ use lib.ListN.{length, get_or}
 use borrow.Author.Tests.{ltb-false, le-ltb, eqb-true, eq-eqb}
 use Rattle.rules.specs.declared.group.Group.{Group}
 use Rattle.rules.specs.declared.process.Message.{Message}
-use Rattle.rules.specs.declared.process.Message.TheVariants.{Nothing, E, S, F, Decision}
+use Rattle.rules.specs.declared.process.Message.TheVariants.{E, S, F, Decision}
 use Rattle.rules.specs.declared.step.Step.{Step}
 use Rattle.rules.specs.declared.step.Step.TheVariants.{DeliverE, DeliverS, DeliverF, DeliverDecision, Suspect, Pause, Crash, Recover}
 use Rattle.rules.specs.Refusals.{row, every, short, strange, late, down, unsent, misnamed, impossible, recovers_past, enters_past}
@@ -29,7 +30,7 @@ use Rattle.rules.specs.Store.{kind_e, kind_s, kind_f, place_of, message_round, h
 use Rattle.rules.specs.Kinds.{numbers_of, round_of, delivers, slot_of, entry_in}
 use Rattle.rules.specs.Safety.In.{here, later}
 use Rattle.rules.proofs.Laws.Bool.{and_right, and_both}
-use Rattle.rules.proofs.Laws.Store.{Place, slot_same, IsMessage, place-lt, hand_over-length, hand_over-own, hand_over-other, cleared-length, cleared-below}
+use Rattle.rules.proofs.Laws.Store.{Place, slot_same, place-lt, hand_over-length, hand_over-own, hand_over-other, cleared-length, cleared-below}
 use Rattle.rules.proofs.Laws.Sound.{named-entry, second-among, Named, Fine, course-fine, sound-facts}
 use Rattle.rules.proofs.Runs.Basics.{Basic, basic, basic-start, basic-next, start_is}
 
@@ -89,41 +90,37 @@ delivered-place (Crash t) i m d = absurd d
 delivered-place (Recover t) i m d = absurd d
 
 -- and no other message does
-pub place-delivered : (s : Step) (i : ℕ) (m : Message) → Addresses s → 1 ≤ i → i ≤ greatest_size → message_round m ≤ last_round → IsMessage m
+pub place-delivered : (s : Step) (i : ℕ) (m : Message) → Addresses s → 1 ≤ i → i ≤ greatest_size → message_round (Some m) ≤ last_round
     → slot_of s ≡ place_of i m → Delivers s (handed i m)
 unfolding Delivers slot_of place_of message_round
-place-delivered (DeliverE t j r c) i (E k q v) h lo hi le is e =
+place-delivered (DeliverE t j r c) i (E k q v) h lo hi le e =
     let same = slot_same k i kind_e r j kind_e (record { round = le; low = lo; high = hi; kind = omega arith }) h (sym e) in
     (q, v, λ x. handed (same.1 x) (E (same.0 x) q v))
-place-delivered (DeliverE t j r c) i (S k) h lo hi le is e = absurd (omega arith)
-place-delivered (DeliverE t j r c) i (F k q v) h lo hi le is e = absurd (omega arith)
-place-delivered (DeliverE t j r c) i (Decision v) h lo hi le is e = absurd (omega arith)
-place-delivered (DeliverS t j r c) i (E k q v) h lo hi le is e = absurd (omega arith)
-place-delivered (DeliverS t j r c) i (S k) h lo hi le is e =
+place-delivered (DeliverE t j r c) i (S k) h lo hi le e = absurd (omega arith)
+place-delivered (DeliverE t j r c) i (F k q v) h lo hi le e = absurd (omega arith)
+place-delivered (DeliverE t j r c) i (Decision v) h lo hi le e = absurd (omega arith)
+place-delivered (DeliverS t j r c) i (E k q v) h lo hi le e = absurd (omega arith)
+place-delivered (DeliverS t j r c) i (S k) h lo hi le e =
     let same = slot_same k i kind_s r j kind_s (record { round = le; low = lo; high = hi; kind = omega arith }) h (sym e) in
     λ x. handed (same.1 x) (S (same.0 x))
-place-delivered (DeliverS t j r c) i (F k q v) h lo hi le is e = absurd (omega arith)
-place-delivered (DeliverS t j r c) i (Decision v) h lo hi le is e = absurd (omega arith)
-place-delivered (DeliverF t j r c) i (E k q v) h lo hi le is e = absurd (omega arith)
-place-delivered (DeliverF t j r c) i (S k) h lo hi le is e = absurd (omega arith)
-place-delivered (DeliverF t j r c) i (F k q v) h lo hi le is e =
+place-delivered (DeliverS t j r c) i (F k q v) h lo hi le e = absurd (omega arith)
+place-delivered (DeliverS t j r c) i (Decision v) h lo hi le e = absurd (omega arith)
+place-delivered (DeliverF t j r c) i (E k q v) h lo hi le e = absurd (omega arith)
+place-delivered (DeliverF t j r c) i (S k) h lo hi le e = absurd (omega arith)
+place-delivered (DeliverF t j r c) i (F k q v) h lo hi le e =
     let same = slot_same k i kind_f r j kind_f (record { round = le; low = lo; high = hi; kind = omega arith }) h (sym e) in
     (q, v, λ x. handed (same.1 x) (F (same.0 x) q v))
-place-delivered (DeliverF t j r c) i (Decision v) h lo hi le is e = absurd (omega arith)
-place-delivered (DeliverDecision t j c) i (E k q v) h lo hi le is e = absurd (omega arith)
-place-delivered (DeliverDecision t j c) i (S k) h lo hi le is e = absurd (omega arith)
-place-delivered (DeliverDecision t j c) i (F k q v) h lo hi le is e = absurd (omega arith)
-place-delivered (DeliverDecision t j c) i (Decision v) h lo hi le is e =
+place-delivered (DeliverF t j r c) i (Decision v) h lo hi le e = absurd (omega arith)
+place-delivered (DeliverDecision t j c) i (E k q v) h lo hi le e = absurd (omega arith)
+place-delivered (DeliverDecision t j c) i (S k) h lo hi le e = absurd (omega arith)
+place-delivered (DeliverDecision t j c) i (F k q v) h lo hi le e = absurd (omega arith)
+place-delivered (DeliverDecision t j c) i (Decision v) h lo hi le e =
     let a : i ≡ j = omega arith in
     (v, λ x. handed (a x) (Decision v))
-place-delivered (DeliverE t j r c) i Nothing h lo hi le is e = absurd is
-place-delivered (DeliverS t j r c) i Nothing h lo hi le is e = absurd is
-place-delivered (DeliverF t j r c) i Nothing h lo hi le is e = absurd is
-place-delivered (DeliverDecision t j c) i Nothing h lo hi le is e = absurd is
-place-delivered (Suspect t c) i m h lo hi le is e = absurd h
-place-delivered (Pause t) i m h lo hi le is e = absurd h
-place-delivered (Crash t) i m h lo hi le is e = absurd h
-place-delivered (Recover t) i m h lo hi le is e = absurd h
+place-delivered (Suspect t c) i m h lo hi le e = absurd h
+place-delivered (Pause t) i m h lo hi le e = absurd h
+place-delivered (Crash t) i m h lo hi le e = absurd h
+place-delivered (Recover t) i m h lo hi le e = absurd h
 
 -- ---- lists of messages
 
@@ -137,11 +134,11 @@ in_right [] a = a
 in_right (k ∷ hs) a = later (in_right hs a)
 
 -- nothing stands in the empty list
-abbrev pub Some : List Handed → Type 0
-Some [] = ⊥
-Some (h ∷ hs) = Unit {0}
+abbrev pub Any : List Handed → Type 0
+Any [] = ⊥
+Any (h ∷ hs) = Unit {0}
 
-pub in_some : {h : Handed} {hs : List Handed} → In h hs → Some hs
+pub in_some : {h : Handed} {hs : List Handed} → In h hs → Any hs
 in_some here = tt
 in_some (later a) = tt
 
@@ -168,17 +165,17 @@ Tells l hs = (s : Step) → Addresses s → (get_or l (slot_of s) 0 ≢ 0) ↔ A
 
 module _ (n i : ℕ) (lo : 1 ≤ i) (hi : i ≤ greatest_size) (l : List ℕ) (hs : List Handed) (long : store_length ≤ length l) (t : Tells l hs) where
   -- one more message
-  tells_more : (m : Message) → IsMessage m → message_round m ≤ last_round → Named n m → Tells (hand_over i m l) (hs ++ (handed i m ∷ []))
-  tells_more m is le named s h = go (ℕ_discrete (slot_of s) (place_of i m))
+  tells_more : (m : Message) → message_round (Some m) ≤ last_round → Named n (Some m) → Tells (hand_over i (Some m) l) (hs ++ (handed i m ∷ []))
+  tells_more m le named s h = go (ℕ_discrete (slot_of s) (place_of i m))
     where
-      go : Dec (slot_of s ≡ place_of i m) → (get_or (hand_over i m l) (slot_of s) 0 ≢ 0) ↔ Among s (hs ++ (handed i m ∷ []))
+      go : Dec (slot_of s ≡ place_of i m) → (get_or (hand_over i (Some m) l) (slot_of s) 0 ≢ 0) ↔ Among s (hs ++ (handed i m ∷ []))
       go (yes e) = (
-        λ ne. record { handed = handed i m; stands = in_right hs here; delivered = place-delivered s i m h lo hi le is e },
-        λ a z. named-entry n i m lo named is
-            (sym (hand_over-own i m l is (omega (arith, place-lt i m hi le))) ∙ ap (λ (k : ℕ). get_or (hand_over i m l) k 0) (sym e) ∙ z),
+        λ ne. record { handed = handed i m; stands = in_right hs here; delivered = place-delivered s i m h lo hi le e },
+        λ a z. named-entry n i (Some m) lo named tt
+            (sym (hand_over-own i (Some m) l tt (omega (arith, place-lt i (Some m) hi le))) ∙ ap (λ (k : ℕ). get_or (hand_over i (Some m) l) k 0) (sym e) ∙ z),
       )
       go (no ne) =
-          let same = hand_over-other i m l (slot_of s) ne in (
+          let same = hand_over-other i (Some m) l (slot_of s) ne in (
             λ sent.
                 let a = (t s h).0 (λ z. sent (same ∙ z)) in
                 record { handed = a.handed; stands = in_left (handed i m ∷ []) a.stands; delivered = a.delivered },
@@ -190,20 +187,17 @@ module _ (n i : ℕ) (lo : 1 ≤ i) (hi : i ≤ greatest_size) (l : List ℕ) (h
           split k d (inr a) = λ z. ne (delivered-place s i m (subst (Delivers s) (in_one a) d))
 
   -- what one place of an event holds
-  tells-one : (m : Message) → message_round m ≤ last_round → Named n m → Tells (hand_over i m l) (hs ++ one i m)
+  tells-one : (m : Option Message) → message_round m ≤ last_round → Named n m → Tells (hand_over i m l) (hs ++ one i m)
   unfolding hand_over one
-  tells-one Nothing le named = rw (append-nil hs) t
-  tells-one (E r q v) le named = tells_more (E r q v) tt le named
-  tells-one (S r) le named = tells_more (S r) tt le named
-  tells-one (F r q v) le named = tells_more (F r q v) tt le named
-  tells-one (Decision v) le named = tells_more (Decision v) tt le named
+  tells-one None le named = rw (append-nil hs) t
+  tells-one (Some m) le named = tells_more m le named
 
 -- the cleared store, and the start's
 tells-start : (v : ℕ) (l : List ℕ) → store_length ≤ length l → Tells (opened v l) (handed 1 (first_message v) ∷ [])
 unfolding opened one message_round
 tells-start v l long =
     tells-one 1 1 (omega arith) (omega arith) (cleared store_length l) [] (omega (arith, cleared-length store_length l long)) clear
-    (first_message v) zero-le (omega arith, omega arith)
+    (Some (first_message v)) zero-le (omega arith, omega arith)
   where
     clear : Tells (cleared store_length l) []
     clear s h = (λ ne. absurd (ne (cleared-below store_length l (slot_of s) (address-lt s h))), λ a. absurd (in_some a.stands))

@@ -1,4 +1,5 @@
 -- What is handed over again: in a state of a run a message whose entry is sent is an E with that very entry, and a step hands over no more than one message. Assumes nothing.
+use Rattle.std.specs.Prelude.{Option, Some, None}
 use mathlib.Core.Path.{◌≡◌, refl, sym, ap, subst, ◌∙◌}
 use mathlib.Core.Bool.{Bool, true, false, ◌&&◌, ◌||◌, not}
 use mathlib.Core.List.{List, []}
@@ -21,6 +22,7 @@ use Rattle.rules.specs.Limits.{greatest_size, last_round, coordinator, majority}
 use Rattle.rules.specs.Tally.{joined, meets}
 use Rattle.rules.specs.Layout.{process_at}
 use Rattle.rules.specs.Store.{slot, decision_slot, kind_e, kind_s, kind_f, proposer_of, value_of, place_of, message_round, entry_for}
+use Rattle.rules.proofs.Laws.Store.{place_by, entry_by}
 use Rattle.rules.specs.Events.{takes, enters, joins_estimates, joins_suspicions, second_phase, quiet, changed, relays_if, relays, decides_if, decides_at}
 use Rattle.rules.specs.Events.{goes_to_phase2, goes_to_phase2_if, to_phase2, adopts_if, adopts, opens_if, opens, enters_next_if, enters_next_at, on_e, on_s, on_f}
 use Rattle.rules.specs.Events.{on_decision, on_suspect, on_pause, on_crash, on_recover, cut_if}
@@ -43,8 +45,12 @@ use Rattle.rules.proofs.Runs.Spoken.{Marked, Spoken}
 
 -- ---- what is fair of an event: at most one message, and one whose entry is sent is an E with that entry
 
-abbrev pub Again : List ℕ → ℕ → Message → Type 0
-Again l i m = IsMessage m → get_or l (place_of i m) 0 ≢ 0 → (is_e m ≡ true) × (entry_for i m ≡ get_or l (place_of i m) 0)
+abbrev pub e_by : Option Message → Bool
+e_by None = false
+e_by (Some m) = is_e m
+
+abbrev pub Again : List ℕ → ℕ → Option Message → Type 0
+Again l i m = IsMessage m → get_or l (place_by i m) 0 ≢ 0 → (e_by m ≡ true) × (entry_by i m ≡ get_or l (place_by i m) 0)
 
 pub record Fair (l : List ℕ) (i : ℕ) (x : Next) : Type 0 where
   pub alone : IsMessage x.first → IsMessage x.second → ⊥

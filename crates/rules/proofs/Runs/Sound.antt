@@ -1,4 +1,5 @@
 -- No group of a run is damaged and no entry is, so that refusals 2 and 11 never come; and no tally is greater than n. Assumes nothing.
+use Rattle.std.specs.Prelude.{Option, Some, None}
 use mathlib.Core.Path.{◌≡◌, refl, sym, ap, subst, ◌∙◌}
 use mathlib.Core.Bool.{Bool, true, false, ◌&&◌, not}
 use mathlib.Core.List.{List}
@@ -14,7 +15,7 @@ use Rattle.rules.specs.declared.group.Group.{Group}
 use Rattle.rules.specs.declared.process.Process.{Process}
 use Rattle.rules.specs.declared.process.Next.{Next}
 use Rattle.rules.specs.declared.process.Message.{Message}
-use Rattle.rules.specs.declared.process.Message.TheVariants.{Nothing, E, S, F, Decision}
+use Rattle.rules.specs.declared.process.Message.TheVariants.{E, S, F, Decision}
 use Rattle.rules.specs.declared.step.Step.{Step}
 use Rattle.rules.specs.declared.step.Step.TheVariants.{DeliverE, DeliverS, DeliverF, DeliverDecision, Suspect, Pause, Crash, Recover}
 use Rattle.rules.specs.Refusals.{row, short, strange, late, down, unsent, misnamed, impossible, recovers_past, enters_past}
@@ -27,6 +28,7 @@ use Rattle.rules.specs.Limits.{greatest_size, store_length, among}
 use Rattle.rules.specs.Tally.{holds}
 use Rattle.rules.specs.Layout.{process_at, Sized}
 use Rattle.rules.specs.Store.{entry_of, proposer_of, value_of, entry_for}
+use Rattle.rules.proofs.Laws.Store.{entry_by}
 use Rattle.rules.specs.Events.{takes, enters, joins_estimates, joins_suspicions, decides, second_phase, marks, paused, crashed, recovered, quiet, changed, jumps_if, jumps, relays_if, relays, decides_if, decides_at, goes_to_phase2, goes_to_phase2_if, to_phase2, adopts_if, adopts, opens_if, opens, enters_next_if, enters_next_at, on_e, on_s, on_f, on_decision, on_suspect, on_pause, on_crash, on_recover, cut_if}
 use Rattle.rules.specs.Kinds.{taker_of, is_cut, delivers, slot_of, entry_in, event_of}
 use Rattle.rules.specs.Private.{number_rows}
@@ -60,12 +62,12 @@ tallies-fit vs l ss b i o =
 -- ---- every value keeps below 2^32
 
 -- of a message
-abbrev Light : Message → Type 0
-Light Nothing = Unit {0}
-Light (E r q v) = v < 2 ^ 32
-Light (S r) = Unit {0}
-Light (F r q v) = v < 2 ^ 32
-Light (Decision v) = v < 2 ^ 32
+abbrev Light : Option Message → Type 0
+Light None = Unit {0}
+Light (Some (E r q v)) = v < 2 ^ 32
+Light (Some (S r)) = Unit {0}
+Light (Some (F r q v)) = v < 2 ^ 32
+Light (Some (Decision v)) = v < 2 ^ 32
 
 -- of a next record and its messages
 record Lean (x : Next) : Type 0 where
@@ -164,13 +166,13 @@ Fits n e = e ≢ 0 → (1 ≤ proposer_of e) × (proposer_of e ≤ n)
 fits-entry : (n q v : ℕ) → 1 ≤ q → q ≤ n → v < 2 ^ 32 → Fits n (entry_of q v)
 fits-entry n q v lo hi k ne = let e = entry-proposer q v k in (omega arith, omega arith)
 
-fits-message : (n i : ℕ) (m : Message) → 1 ≤ i → i ≤ n → Named n m → Light m → IsMessage m → Fits n (entry_for i m)
+fits-message : (n i : ℕ) (m : Option Message) → 1 ≤ i → i ≤ n → Named n m → Light m → IsMessage m → Fits n (entry_by i m)
 unfolding entry_for
-fits-message n i Nothing lo hi h k is = absurd is
-fits-message n i (E r q v) lo hi h k is = fits-entry n q v h.0 h.1 k
-fits-message n i (S r) lo hi h k is = fits-entry n i 0 lo hi (omega arith)
-fits-message n i (F r q v) lo hi h k is = fits-entry n q v h.0 h.1 k
-fits-message n i (Decision v) lo hi h k is = fits-entry n i v lo hi k
+fits-message n i None lo hi h k is = absurd is
+fits-message n i (Some (E r q v)) lo hi h k is = fits-entry n q v h.0 h.1 k
+fits-message n i (Some (S r)) lo hi h k is = fits-entry n i 0 lo hi (omega arith)
+fits-message n i (Some (F r q v)) lo hi h k is = fits-entry n q v h.0 h.1 k
+fits-message n i (Some (Decision v)) lo hi h k is = fits-entry n i v lo hi k
 
 -- values and entries together
 record Clean (n : ℕ) (a : State) : Type 0 where

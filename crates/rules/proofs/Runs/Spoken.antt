@@ -1,4 +1,5 @@
 -- What a process has said it still knows: of each S that it sent it has the mark, unless it is in a later round, and of its decision that it decided. Assumes nothing.
+use Rattle.std.specs.Prelude.{Option, Some, None}
 use mathlib.Core.Path.{◌≡◌, refl, sym, ap, subst, ◌∙◌}
 use mathlib.Core.Bool.{Bool, true, false}
 use mathlib.Core.List.{List}
@@ -14,12 +15,13 @@ use Rattle.rules.specs.declared.group.Group.{Group}
 use Rattle.rules.specs.declared.process.Process.{Process}
 use Rattle.rules.specs.declared.process.Next.{Next}
 use Rattle.rules.specs.declared.process.Message.{Message}
-use Rattle.rules.specs.declared.process.Message.TheVariants.{Nothing, E, S, F, Decision}
+use Rattle.rules.specs.declared.process.Message.TheVariants.{E, S, F, Decision}
 use Rattle.rules.specs.declared.step.Step.{Step}
 use Rattle.rules.specs.declared.step.Step.TheVariants.{DeliverE, DeliverS, DeliverF, DeliverDecision, Suspect, Pause, Crash, Recover}
 use Rattle.rules.specs.Limits.{greatest_size, last_round, store_length}
 use Rattle.rules.specs.Layout.{process_at, with_process, Sized}
 use Rattle.rules.specs.Store.{slot, decision_slot, kind_s, place_of, message_round, hand_over}
+use Rattle.rules.proofs.Laws.Store.{place_by}
 use Rattle.rules.specs.Events.{takes, enters, joins_estimates, joins_suspicions, decides, second_phase, marks, paused, crashed, recovered, quiet, changed, jumps_if, jumps}
 use Rattle.rules.specs.Events.{relays_if, relays, decides_if, decides_at, goes_to_phase2, goes_to_phase2_if, to_phase2, adopts_if, adopts, opens_if, opens, enters_next_if}
 use Rattle.rules.specs.Events.{enters_next_at, on_e, on_s, on_f, on_decision, on_suspect, on_pause, on_crash, on_recover, cut_if}
@@ -60,12 +62,12 @@ onward-on {p} {q} {r} a b =
 -- ---- what its messages say of it
 
 -- an S, that it is marked in that round; a decision, that it has decided
-abbrev True : Process → Message → Type 0
-True q Nothing = Unit {0}
-True q (E r p v) = Unit {0}
-True q (S r) = (r ≡ q.round) × (q.marked ≡ true)
-True q (F r p v) = Unit {0}
-True q (Decision v) = q.decided ≡ true
+abbrev True : Process → Option Message → Type 0
+True q None = Unit {0}
+True q (Some (E r p v)) = Unit {0}
+True q (Some (S r)) = (r ≡ q.round) × (q.marked ≡ true)
+True q (Some (F r p v)) = Unit {0}
+True q (Some (Decision v)) = q.decided ≡ true
 
 -- process p takes an event: it goes on, and its messages are true of it
 record Speaks (p : Process) (x : Next) : Type 0 where
@@ -197,34 +199,34 @@ marked-on {r} {p} {q} o m =
     }
 
 -- the place of an S is that of no other message; nor is that of a decision
-S-place : (i r t : ℕ) (m : Message) (q : Process) → 1 ≤ i → i ≤ greatest_size → r ≤ last_round → 1 ≤ t → t ≤ greatest_size → message_round m ≤ last_round
-    → slot r i kind_s ≡ place_of t m → True q m → (i ≡ t) × Marked r q
+S-place : (i r t : ℕ) (m : Option Message) (q : Process) → 1 ≤ i → i ≤ greatest_size → r ≤ last_round → 1 ≤ t → t ≤ greatest_size → message_round m ≤ last_round
+    → slot r i kind_s ≡ place_by t m → True q m → (i ≡ t) × Marked r q
 unfolding place_of message_round
-S-place i r t Nothing q lo hi le lo' hi' le' e w = absurd (omega arith)
-S-place i r t (E k p v) q lo hi le lo' hi' le' e w = absurd (omega arith)
-S-place i r t (S k) q lo hi le lo' hi' le' e w =
+S-place i r t None q lo hi le lo' hi' le' e w = absurd (omega arith)
+S-place i r t (Some (E k p v)) q lo hi le lo' hi' le' e w = absurd (omega arith)
+S-place i r t (Some (S k)) q lo hi le lo' hi' le' e w =
     let same = slot_same r i kind_s k t kind_s (record { round = le; low = lo; high = hi; kind = omega arith })
     (record { round = le'; low = lo'; high = hi'; kind = omega arith }) e in
     (same.1, record { came = omega (arith, same.0, w.0); mark = λ z. w.1 })
-S-place i r t (F k p v) q lo hi le lo' hi' le' e w = absurd (omega arith)
-S-place i r t (Decision v) q lo hi le lo' hi' le' e w = absurd (omega arith)
+S-place i r t (Some (F k p v)) q lo hi le lo' hi' le' e w = absurd (omega arith)
+S-place i r t (Some (Decision v)) q lo hi le lo' hi' le' e w = absurd (omega arith)
 
-D-place : (i t : ℕ) (m : Message) (q : Process) → 1 ≤ i → 1 ≤ t → t ≤ greatest_size → message_round m ≤ last_round
-    → decision_slot i ≡ place_of t m → True q m → (i ≡ t) × (q.decided ≡ true)
+D-place : (i t : ℕ) (m : Option Message) (q : Process) → 1 ≤ i → 1 ≤ t → t ≤ greatest_size → message_round m ≤ last_round
+    → decision_slot i ≡ place_by t m → True q m → (i ≡ t) × (q.decided ≡ true)
 unfolding place_of message_round
-D-place i t Nothing q lo lo' hi' le' e w = absurd (omega arith)
-D-place i t (E k p v) q lo lo' hi' le' e w = absurd (omega arith)
-D-place i t (S k) q lo lo' hi' le' e w = absurd (omega arith)
-D-place i t (F k p v) q lo lo' hi' le' e w = absurd (omega arith)
-D-place i t (Decision v) q lo lo' hi' le' e w = (omega arith, w)
+D-place i t None q lo lo' hi' le' e w = absurd (omega arith)
+D-place i t (Some (E k p v)) q lo lo' hi' le' e w = absurd (omega arith)
+D-place i t (Some (S k)) q lo lo' hi' le' e w = absurd (omega arith)
+D-place i t (Some (F k p v)) q lo lo' hi' le' e w = absurd (omega arith)
+D-place i t (Some (Decision v)) q lo lo' hi' le' e w = (omega arith, w)
 
 -- an entry that is sent after the handing over was sent before, or is of one of the two messages
-overs-cases : {A : Type 0} (i : ℕ) (x : Next) (l : List ℕ) (k : ℕ) → get_or (hand_overs i x l) k 0 ≢ 0 → (get_or l k 0 ≢ 0 → A) → (k ≡ place_of i x.first → A)
-    → (k ≡ place_of i x.second → A) → A
+overs-cases : {A : Type 0} (i : ℕ) (x : Next) (l : List ℕ) (k : ℕ) → get_or (hand_overs i x l) k 0 ≢ 0 → (get_or l k 0 ≢ 0 → A) → (k ≡ place_by i x.first → A)
+    → (k ≡ place_by i x.second → A) → A
 unfolding hand_overs
-overs-cases {A} i x l k ne old one two = go (ℕ_discrete k (place_of i x.first)) (ℕ_discrete k (place_of i x.second))
+overs-cases {A} i x l k ne old one two = go (ℕ_discrete k (place_by i x.first)) (ℕ_discrete k (place_by i x.second))
   where
-    go : Dec (k ≡ place_of i x.first) → Dec (k ≡ place_of i x.second) → A
+    go : Dec (k ≡ place_by i x.first) → Dec (k ≡ place_by i x.second) → A
     go (yes e) d = one e
     go (no a) (yes e) = two e
     go (no a) (no b) =

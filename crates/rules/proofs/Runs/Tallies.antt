@@ -1,5 +1,6 @@
 -- Statement 8: whoever is in a tally has sent that message, so that a decision by E, a move to phase 2 by S and a next round each come with a majority of senders.
 -- Assumes nothing.
+use Rattle.std.specs.Prelude.{Option}
 use mathlib.Core.Path.{◌≡◌, refl, sym, ap, ap₂, subst, ◌∙◌}
 use mathlib.Core.Bool.{Bool, true, false, ◌&&◌, ◌||◌, not}
 use mathlib.Core.List.{List, [], ◌∷◌}
@@ -28,7 +29,8 @@ use Rattle.rules.proofs.Bare.Step.{begun, course, settled, stepped}
 use Rattle.rules.specs.Limits.{greatest_size, last_round, store_length, majority, coordinator, among}
 use Rattle.rules.specs.Tally.{holds, joined, meets, within}
 use Rattle.rules.specs.Layout.{process_at, with_process, Sized}
-use Rattle.rules.specs.Store.{slot, kind_e, kind_s, kind_f, proposer_of, value_of, place_of, message_round, entry_for, hand_over}
+use Rattle.rules.specs.Store.{slot, kind_e, kind_s, kind_f, proposer_of, value_of, message_round, hand_over}
+use Rattle.rules.proofs.Laws.Store.{place_by, entry_by}
 use Rattle.rules.specs.Events.{takes, enters, joins_estimates, joins_suspicions, decides, second_phase, marks, paused, crashed, recovered, quiet, changed, jumps_if, jumps, relays_if, relays, decides_if, decides_at, goes_to_phase2, goes_to_phase2_if, to_phase2, adopts_if, adopts, enters_next_if, enters_next_at, on_e, on_s, on_f, on_decision, on_suspect, on_pause, on_crash, on_recover, cut_if}
 use Rattle.rules.specs.Kinds.{taker_of, numbers_of, delivers, is_cut, slot_of, entry_in, event_of}
 use Rattle.rules.specs.Idle.{past_for, idle_e, idle_s, idle_f, idle, in_phase}
@@ -96,16 +98,16 @@ hears-stays {l} {m} {n} {r} {f} {e} {s} stays h =
 
 -- they stay as process i hands over
 module _ (n i : ℕ) (lo : 1 ≤ i) (hi : i ≤ greatest_size) where
-  over-stays : (m : Message) (l : List ℕ) → message_round m ≤ last_round → Named n m → store_length ≤ length l → Stays l (hand_over i m l)
+  over-stays : (m : Option Message) (l : List ℕ) → message_round m ≤ last_round → Named n m → store_length ≤ length l → Stays l (hand_over i m l)
   over-stays m l le named long k sent =
-      handing (λ (l' : List ℕ). get_or l' k 0 ≢ 0) i m l (λ none. sent) (λ is. go is (ℕ_discrete k (place_of i m)))
+      handing (λ (l' : List ℕ). get_or l' k 0 ≢ 0) i m l (λ none. sent) (λ is. go is (ℕ_discrete k (place_by i m)))
     where
-      go : IsMessage m → Dec (k ≡ place_of i m) → get_or (set l (place_of i m) (entry_for i m)) k 0 ≢ 0
+      go : IsMessage m → Dec (k ≡ place_by i m) → get_or (set l (place_by i m) (entry_by i m)) k 0 ≢ 0
       go is (yes e) = λ z.
           named-entry n i m lo named is
-          (sym (own l (place_of i m) (entry_for i m) (omega (arith, place-lt i m hi le)))
-          ∙ ap (λ (x : ℕ). get_or (set l (place_of i m) (entry_for i m)) x 0) (sym e) ∙ z)
-      go is (no ne) = λ z. sent (sym (other l (place_of i m) (entry_for i m) k ne) ∙ z)
+          (sym (own l (place_by i m) (entry_by i m) (omega (arith, place-lt i m hi le)))
+          ∙ ap (λ (x : ℕ). get_or (set l (place_by i m) (entry_by i m)) x 0) (sym e) ∙ z)
+      go is (no ne) = λ z. sent (sym (other l (place_by i m) (entry_by i m) k ne) ∙ z)
 
 pub overs-stay : (n i : ℕ) (x : Next) (l : List ℕ) → Taking n i x → store_length ≤ length l → Stays l (hand_overs i x l)
 unfolding hand_overs

@@ -1,4 +1,5 @@
 -- Statement 15, and that an entry once sent stays as it is: how many messages a step hands over, and what is handed over again. Assumes nothing.
+use Rattle.std.specs.Prelude.{Option, Some, None}
 use mathlib.Core.Path.{◌≡◌, refl, sym, ap, subst, ◌∙◌}
 use mathlib.Core.Bool.{true}
 use mathlib.Core.List.{List, [], ◌∷◌, ◌++◌}
@@ -8,11 +9,11 @@ use native.Mathlib.Decide.{ℕ_discrete}
 use native.Mathlib.Omega.{arith}
 use lib.ListN.{length, get_or, length-append}
 use Rattle.rules.specs.declared.process.Message.{Message}
-use Rattle.rules.specs.declared.process.Message.TheVariants.{Nothing, E, S, F, Decision}
 use Rattle.rules.specs.declared.process.Next.{Next}
 use Rattle.rules.specs.declared.step.Step.{Step}
 use Rattle.rules.specs.Limits.{store_length}
 use Rattle.rules.specs.Store.{place_of, entry_for, hand_over, Handed, handed, place_handed, entry_handed, one}
+use Rattle.rules.proofs.Laws.Store.{place_by, entry_by}
 use Rattle.rules.specs.Depths.{depth_after}
 use Rattle.rules.specs.Start.{first_message}
 use Rattle.rules.specs.Step.{Course, Idles, Refuses, Takes, handed_of, hand_overs, sent_by, again_by, course, settled, stepped}
@@ -29,7 +30,7 @@ use Rattle.rules.proofs.Depths.Steps.{sent-after}
 use Rattle.rules.proofs.Agreement.Agree.{safe}
 use Rattle.rules.proofs.Runs.Handing.{in_some, in_one, in-cases}
 use Rattle.rules.proofs.Runs.Spoken.{spoken}
-use Rattle.rules.proofs.Runs.Repeats.{Again, Fair, FairBy, state-fair}
+use Rattle.rules.proofs.Runs.Repeats.{e_by, Again, Fair, FairBy, state-fair}
 
 -- ---- of any group over any stores
 
@@ -52,30 +53,30 @@ at_most_two a s = go (course a.group a.store a.depths s)
 
 -- ---- one message, or none
 
-is-message : (m : Message) → Dec (IsMessage m)
-is-message Nothing = no (λ a. a)
-is-message (E r q v) = yes tt
-is-message (S r) = yes tt
-is-message (F r q v) = yes tt
-is-message (Decision v) = yes tt
+is-message : (m : Option Message) → Dec (IsMessage m)
+is-message None = no (λ a. a)
+is-message (Some m) = yes tt
 
 module _ (i : ℕ) where
-  one-is : (m : Message) {h : Handed} → In h (one i m) → IsMessage m × (h ≡ handed i m)
+  -- what is handed over with m
+  record One (m : Option Message) (h : Handed) : Type 0 where
+    is : IsMessage m
+    place : place_handed h ≡ place_by i m
+    entry : entry_handed h ≡ entry_by i m
+    kind : is_e h.message ≡ e_by m
+
+  one-is : (m : Option Message) {h : Handed} → In h (one i m) → One m h
   unfolding one
-  one-is Nothing a = absurd (in_some a)
-  one-is (E r q v) a = (tt, in_one a)
-  one-is (S r) a = (tt, in_one a)
-  one-is (F r q v) a = (tt, in_one a)
-  one-is (Decision v) a = (tt, in_one a)
+  one-is None a = absurd (in_some a)
+  one-is (Some m) a =
+      let e = in_one a in
+      record { is = tt; place = ap place_handed e; entry = ap entry_handed e; kind = ap (λ (h : Handed). is_e h.message) e }
 
   -- none is not counted, and leaves the store
-  none : (m : Message) (l : List ℕ) → ¬ IsMessage m → (length (one i m) ≡ 0) × (hand_over i m l ≡ l)
+  none : (m : Option Message) (l : List ℕ) → ¬ IsMessage m → (length (one i m) ≡ 0) × (hand_over i m l ≡ l)
   unfolding one hand_over
-  none Nothing l no_one = (refl, refl)
-  none (E r q v) l no_one = absurd (no_one tt)
-  none (S r) l no_one = absurd (no_one tt)
-  none (F r q v) l no_one = absurd (no_one tt)
-  none (Decision v) l no_one = absurd (no_one tt)
+  none None l no_one = (refl, refl)
+  none (Some m) l no_one = absurd (no_one tt)
 
 -- ---- what process i hands over with x, where it is fair
 
@@ -93,7 +94,7 @@ module _ (n i : ℕ) (x : Next) (l : List ℕ) (f : Taking n i x) (long : store_
       go (no a) d = omega (arith, both, counted-once i x.second l, (none i x.first l a).0)
 
   -- the store is that after a message of it, or as it was
-  fair-store : (P : List ℕ → Type 0) → P l → ((m : Message) → IsMessage m → place_of i m < store_length → Again l i m → P (hand_over i m l)) → P (hand_overs i x l)
+  fair-store : (P : List ℕ → Type 0) → P l → ((m : Option Message) → IsMessage m → place_by i m < store_length → Again l i m → P (hand_over i m l)) → P (hand_overs i x l)
   unfolding hand_overs
   fair-store P old new = go (is-message x.first) (is-message x.second)
     where
@@ -109,9 +110,9 @@ module _ (n i : ℕ) (x : Next) (l : List ℕ) (f : Taking n i x) (long : store_
 
   -- an entry that is sent stays as it is
   fair-stays : (k : ℕ) → get_or l k 0 ≢ 0 → get_or (hand_overs i x l) k 0 ≡ get_or l k 0
-  fair-stays k sent = fair-store (λ l'. get_or l' k 0 ≡ get_or l k 0) refl (λ m is lt again. go m is lt again (ℕ_discrete k (place_of i m)))
+  fair-stays k sent = fair-store (λ l'. get_or l' k 0 ≡ get_or l k 0) refl (λ m is lt again. go m is lt again (ℕ_discrete k (place_by i m)))
     where
-      go : (m : Message) → IsMessage m → place_of i m < store_length → Again l i m → Dec (k ≡ place_of i m) → get_or (hand_over i m l) k 0 ≡ get_or l k 0
+      go : (m : Option Message) → IsMessage m → place_by i m < store_length → Again l i m → Dec (k ≡ place_by i m) → get_or (hand_over i m l) k 0 ≡ get_or l k 0
       go m is lt again (yes e) =
           let here = ap (λ (q : ℕ). get_or l q 0) e in
           ap (λ (q : ℕ). get_or (hand_over i m l) q 0) e ∙ hand_over-own i m l is (omega arith) ∙ (again is (λ z. sent (here ∙ z))).1 ∙ sym here
@@ -127,27 +128,31 @@ module _ (n i : ℕ) (x : Next) (l : List ℕ) (f : Taking n i x) (long : store_
   unfolding handed_of hand_overs
   fair-stands h a = go (in-cases (one i x.first) a)
     where
+      -- one of the two that stands with its entry, and is fair
+      by : (m : Option Message) → One i m h → get_or (hand_overs i x l) (place_by i m) 0 ≡ entry_by i m → entry_by i m ≢ 0 → Again l i m → Stands h
+      by m it entry real again =
+          record {
+            entry = ap (λ q. get_or (hand_overs i x l) q 0) it.place ∙ entry ∙ sym it.entry;
+            real = λ z. real (sym it.entry ∙ z);
+            again =
+                λ sent.
+                let was = ap (λ q. get_or l q 0) it.place in
+                let e = again it.is (λ z. sent (was ∙ z)) in
+                (it.kind ∙ e.0, it.entry ∙ e.1 ∙ sym was);
+          }
+
       go : In h (one i x.first) ⊎ In h (one i x.second) → Stands h
       go (inl b) =
           let it = one-is i x.first b in
-          subst Stands (sym it.1)
-          (record {
-            entry =
-                ap (λ l'. get_or l' (place_of i x.first) 0) (none i x.second (hand_over i x.first l) (fair.alone it.0)).1
-                ∙ hand_over-own i x.first l it.0 (omega (arith, place-lt i x.first f.small f.first));
-            real = named-entry n i x.first f.low f.first-named it.0;
-            again = fair.first it.0;
-          })
+          by x.first it
+          (ap (λ l'. get_or l' (place_by i x.first) 0) (none i x.second (hand_over i x.first l) (fair.alone it.is)).1
+          ∙ hand_over-own i x.first l it.is (omega (arith, place-lt i x.first f.small f.first)))
+          (named-entry n i x.first f.low f.first-named it.is) fair.first
       go (inr b) =
           let it = one-is i x.second b in
-          subst Stands (sym it.1)
-          (record {
-            entry =
-                hand_over-own i x.second (hand_over i x.first l) it.0
-                (omega (arith, place-lt i x.second f.small f.second, hand_over-length i x.first l));
-            real = named-entry n i x.second f.low f.second-named it.0;
-            again = fair.second it.0;
-          })
+          by x.second it
+          (hand_over-own i x.second (hand_over i x.first l) it.is (omega (arith, place-lt i x.second f.small f.second, hand_over-length i x.first l)))
+          (named-entry n i x.second f.low f.second-named it.is) fair.second
 
 -- ---- a state of a run
 

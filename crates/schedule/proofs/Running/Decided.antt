@@ -61,7 +61,7 @@ deep-decided : (g : Group) (i k : ℕ) → g.n ≤ greatest_size → deciders (w
 unfolding with_depth
 deep-decided g i k small =
     count-ext (λ j. (process_at g j).decided) (λ j. (process_at (with_depth g i k) j).decided) g.n
-    (λ j lo hi. ap (λ (p : Process). p.decided) (process-deep g i k j (omega (arith, small))))
+    (λ j lo hi. ap (λ (p : Process). p.decided) (process-deep g i k j))
 
 module _ (g : Group) (sized : Sized g) (small : g.n ≤ greatest_size) where
   -- the change of one process
@@ -92,7 +92,7 @@ module _ (g : Group) (sized : Sized g) (small : g.n ≤ greatest_size) where
       ∙ with-decided i x.process f.low f.high
       (λ e.
       ap (λ (q : Process). q.decided) (sym (process-put g i x.process sized f.low f.small))
-      ∙ ap (λ (q : Process). q.decided) (sym (process-deep g' i k i f.small)) ∙ h i f.low f.high e)
+      ∙ ap (λ (q : Process). q.decided) (sym (process-deep g' i k i)) ∙ h i f.low f.high e)
 
   step-decided : (l d : List ℕ) (s : Step) → Fine g.n (course g l d s) → Stay (stepped g l d s).group
       → deciders (stepped g l d s).group ≡ deciders g + bit_of (stepped g l d s).says.decided

@@ -1,12 +1,14 @@
 -- `Process::way` meets its contract: refused, or the last course. Assumes nothing.
 use Rattle.rules.proofs.Laws.Course.{held-names}
-use Rattle.rules.specs.Private.{held_rows, held_course, unless_held, last_course, lifted}
+use Rattle.rules.proofs.Laws.Way.{number-some}
+use Rattle.rules.specs.Private.{held_rows, held_course, unless_held, last_course, lifted, lifts, told, refused_by, entry_heard, depth_heard}
 use Rattle.rules.specs.Refusals.{is_recover}
 use Rattle.rules.specs.Step.{Refuses}
 use Rattle.rules.specs.Kinds.{delivers}
 use Rattle.rules.specs.declared.step.Step.{Step}
 use Rattle.rules.specs.declared.process.Process.{Process}
-use Prim.Native.Nat.{ℕ, zero, suc}
+use Rattle.std.proofs.lemmas.Result.{err_from_is_err_and}
+use Prim.Native.Nat.{ℕ, zero, suc, ◌+◌}
 use mathlib.Core.Bool.{Bool}
 use mathlib.Core.Path.{◌≡◌, refl, sym, ap, ap₂, ◌∙◌}
 use Rattle.rules.proofs.process.Process.way.Goals as goal
@@ -29,17 +31,30 @@ module _ (n i e k : ℕ) (p : Process) (s : Step) where
   passed h = rw h
 
 -- what was tested are those rows
-told : (n : ℕ) (up : Bool) (e k : ℕ) {d d' b b' : Bool} → d ≡ d' → b ≡ b' → held_rows n up e k d b ≡ held_rows n up e k d' b'
-told n up e k x y = ap₂ (held_rows n up e k) x y
+tested : (n : ℕ) (up : Bool) (e k : ℕ) {d d' b b' : Bool} → d ≡ d' → b ≡ b' → held_rows n up e k d b ≡ held_rows n up e k d' b'
+tested n up e k x y = ap₂ (held_rows n up e k) x y
 
-pub returns-then-refusal-ne0 : goal.returns-then-refusal-ne0
-unfolding lifted
-returns-then-refusal-ne0 c = ap (lifted _) (refused _ _ _ _ _ _ (sym (c.held_refusal-refusal.ensures ∙ told _ _ _ _ c.requires.1 c.requires.2)) c.if-refusal-ne0.true)
+pub returns-in_err-heard : goal.returns-in_err-heard
+unfolding told lifted refused_by
+returns-in_err-heard c =
+    let a = c.args in
+    let p = err_from_is_err_and c.from_residual.result c.from_residual.ensures.1 in
+    let rows = sym (c.in_err-heard.ensures.rows ∙ tested a.seat.n a.self.up (entry_heard a.heard) (depth_heard a.heard) c.requires.1 c.requires.2) in
+    rw (p.1, p.2)
+    (ap (lifted _) (refused a.seat.n a.seat.i (entry_heard a.heard) (depth_heard a.heard) a.self a.step rows (number-some c.in_err-heard.field-0.0)))
 
 pub last_way-requires : goal.last_way-requires
+unfolding refused_by
 last_way-requires c =
     let a = c.args in
-    (c.requires.0, held-names a.n a.self.up a.entry a.depth a.step c.requires.0.high (sym (c.held_refusal-refusal.ensures ∙ told _ _ _ _ c.requires.1 c.requires.2) ∙ c.if-refusal-ne0.false))
+    let e = c.in_ok-heard.ensures.same in
+    (c.requires.0, rw e.0 (held-names a.seat.n a.self.up (entry_heard a.heard) (depth_heard a.heard) a.step c.requires.0.high (sym (c.in_ok-heard.ensures.rows ∙ tested _ _ _ _ c.requires.1 c.requires.2))))
 
 pub returns : goal.returns
-returns c = c.last_way.ensures ∙ ap (lifted _) (passed _ _ _ _ _ _ (sym (c.held_refusal-refusal.ensures ∙ told _ _ _ _ c.requires.1 c.requires.2) ∙ c.if-refusal-ne0.false))
+unfolding refused_by
+returns c =
+    let a = c.args in
+    let e = c.in_ok-heard.ensures.same in
+    c.last_way.ensures
+    ∙ ap₂ (λ (k e : ℕ). lifted (lifts a.self a.step (k + 1)) (last_course a.seat.n a.seat.i e a.self a.step)) e.1 e.0
+    ∙ ap (lifted _) (passed a.seat.n a.seat.i (entry_heard a.heard) (depth_heard a.heard) a.self a.step (sym (c.in_ok-heard.ensures.rows ∙ tested _ _ _ _ c.requires.1 c.requires.2)))

@@ -8,12 +8,12 @@ pub overflow_add-result : goal.overflow_add-result
 overflow_add-result c =
     let a = c.args in
     let l = a.store.now in
-    omega (arith, c.hand_over-one.ensures.sent, c.hand_over-two.ensures.sent, counted-once a.i a.first l, counted-once a.i a.second l)
+    omega (arith, c.hand_over-one.ensures.sent, c.hand_over-two.ensures.sent, counted-once a.i a.next.first l, counted-once a.i a.next.second l)
 
 pub overflow_add-result-2 : goal.overflow_add-result-2
 overflow_add-result-2 c =
     let a = c.args in
-    omega (arith, c.hand_over-one.ensures.again, c.hand_over-two.ensures.again, counted-once a.i a.first a.store.now, counted-once a.i a.second c.hand_over-one.new.store)
+    omega (arith, c.hand_over-one.ensures.again, c.hand_over-two.ensures.again, counted-once a.i a.next.first a.store.now, counted-once a.i a.next.second c.hand_over-one.new.store)
 
 pub returns : goal.returns
 returns c = hands-both c.hand_over-one.ensures c.hand_over-two.ensures

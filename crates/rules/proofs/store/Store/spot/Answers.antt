@@ -1,26 +1,19 @@
--- `Store::spot` meets its contract: each kind of message has its place and its entry. Assumes nothing.
-use Rattle.rules.specs.Private.{spot_of}
-use Rattle.rules.specs.Store.{place_of, entry_for}
-use Rattle.rules.specs.declared.store.Spot.{Spot}
-use mathlib.Core.Path.{ap₂}
+-- `Store::spot` meets its contract: the place of a message of a round that there is lies in the store. Assumes nothing.
+use mathlib.Core.Path.{ap}
+use native.Mathlib.Omega.{arith}
+use Rattle.std.specs.Prelude.{Some}
+use Rattle.rules.specs.declared.process.Message.{Message}
+use Rattle.rules.specs.Store.{message_round}
 use Rattle.rules.proofs.store.Store.spot.Goals as goal
 
-pub returns-in-Nothing : goal.returns-in-Nothing
-unfolding spot_of
-returns-in-Nothing c = rw c.in-Nothing.is
+pub returns-in-E-clause-within : goal.returns-in-E-clause-within
+unfolding message_round
+returns-in-E-clause-within c = λ h. c.slot.ensures.within (omega (arith, h, ap (λ (m : Message). message_round (Some m)) c.in-E.is))
 
-pub returns-in-E : goal.returns-in-E
-unfolding spot_of place_of entry_for
-returns-in-E c = rw c.in-E.is (ap₂ Spot.At c.slot.ensures c.entry_of.ensures)
+pub returns-in-S-clause-within : goal.returns-in-S-clause-within
+unfolding message_round
+returns-in-S-clause-within c = λ h. c.slot-in-S.ensures.within (omega (arith, h, ap (λ (m : Message). message_round (Some m)) c.in-S.is))
 
-pub returns-in-S : goal.returns-in-S
-unfolding spot_of place_of entry_for
-returns-in-S c = rw c.in-S.is (ap₂ Spot.At c.slot-in-S.ensures c.entry_of-in-S.ensures)
-
-pub returns-in-F : goal.returns-in-F
-unfolding spot_of place_of entry_for
-returns-in-F c = rw c.in-F.is (ap₂ Spot.At c.slot-in-F.ensures c.entry_of-in-F.ensures)
-
-pub returns-in-Decision : goal.returns-in-Decision
-unfolding spot_of place_of entry_for
-returns-in-Decision c = rw c.in-Decision.is (ap₂ Spot.At c.decision_slot.ensures c.entry_of-in-Decision.ensures)
+pub returns-in-F-clause-within : goal.returns-in-F-clause-within
+unfolding message_round
+returns-in-F-clause-within c = λ h. c.slot-in-F.ensures.within (omega (arith, h, ap (λ (m : Message). message_round (Some m)) c.in-F.is))
