@@ -13,6 +13,7 @@ pub fn read_full<R: Read>(from: &mut R, buf: &mut [u8]) -> usize
     ensures bytes { Consumes (R.remaining from.old) (R.remaining from.new) (take result buf.new) }
 {
     let mut done = 0;
+    // A loop by hand: the library's `read_exact` says little of the buffer where the input ends early, and its `read_to_end` allocates, which nothing here does.
     while done < buf.len() {
         match from.read(&mut buf[done..]) {
             Ok(0) | Err(_) => break,

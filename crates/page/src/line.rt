@@ -1,5 +1,6 @@
 // A line of text by a template: each `#` in it stands for the next number.
 // It is written where it has room, and is no longer than ten digits to a number make it.
+// The array and the place stay two parameters here and in the report, as `put_bytes` and `put_number` of the crate text take them.
 ghost use Rattle.std.specs.Prelude.{◌≡◌, ◌+◌, ◌≤◌, length};
 ghost use Rattle.page.specs.Private.{longest_of};
 ghost use Rattle.page.specs.Filled.{filled};

@@ -1,5 +1,6 @@
 // Texts and numbers, written one after the other into a lent array.
 // Where a text has no room from its place on, nothing is written, and the place is answered as it was.
+// The array and the place stay two parameters, and no room stays a place and no `None`: the clause `Puts` of `put_bytes` and `put_number` says both, of every input.
 ghost use Rattle.std.specs.Prelude.{◌≡◌, ◌+◌, leb};
 ghost use Rattle.text.specs.Number.{spelled};
 ghost use Rattle.text.specs.Put.{Puts};
