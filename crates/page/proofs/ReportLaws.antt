@@ -1,10 +1,9 @@
 -- The laws of the report: one process line more, a run's group has at most 16 processes, and how the report of a run splits. Assumes nothing.
-use Prim.Native.Nat.{ℕ, ◌+◌, ◌*◌, ◌≤◌}
+use Prim.Native.Nat.{ℕ, zero, suc, ◌-◌, ◌*◌, ◌≤◌}
 use mathlib.Core.Path.{◌≡◌, sym, ap, ap₂, ◌∙◌}
-use mathlib.Core.Bool.{Bool}
+use mathlib.Core.Bool.{Bool, true, false}
 use mathlib.Core.List.{List, [], ◌∷◌, ◌++◌}
 use native.Mathlib.Omega.{arith}
-use native.Mathlib.Numerals.{add-one}
 use lib.ListN.{length, drop}
 use borrow.Author.Tests.{eq-eqb, ne_eqb}
 use Rattle.rules.specs.Limits.{greatest_size}
@@ -22,12 +21,23 @@ use Rattle.text.proofs.PutLaws.{wrote-length, wrote-same, wrote-first}
 use Rattle.schedule.specs.Schedule.{Reading, faulty, sound, read_file}
 use Rattle.schedule.specs.Run.{RanOver, ran_over, run_by, run_of, has_run, not_run, begins, between}
 use Rattle.schedule.specs.declared.run.Ran.{Ran}
-use Rattle.page.specs.Private.{longest_status, longest_estimate, longest_end, longest_line}
-use Rattle.page.specs.Report.{fault_line, status_part, estimate_part, end_part, process_line, line_of_process, process_lines, done_text, report_of, Reports}
+use Rattle.page.specs.Filled.{filled}
+use Rattle.page.specs.Private.{longest_of, longest_status, longest_estimate, longest_end, longest_line}
+use Rattle.page.specs.Report.{up_text, down_text, fault_line, status_part, estimate_part, end_part, process_line, line_of_process, process_lines, done_text, report_of, Reports}
 use Rattle.page.specs.Private.{Piece}
 use Rattle.page.proofs.PieceLaws.{piece-more, piece-within}
 
 -- ---- process lines, one after the other
+
+-- the number with `up` or `down`
+status-chosen : {l m : List ℕ} {at a : ℕ} (i : ℕ) (u : Bool) (t : List ℕ) → t ≡ pick u up_text down_text
+    → Piece (longest_of (length t) 1) l at (filled t (i ∷ [])) m a → Piece longest_status l at (pick u (filled up_text (i ∷ [])) (filled down_text (i ∷ []))) m a
+status-chosen i true t e x = piece-within (omega (arith, ap length e)) (ap (λ (s : List ℕ). filled s (i ∷ [])) e) x
+status-chosen i false t e x = piece-within (omega (arith, ap length e)) (ap (λ (s : List ℕ). filled s (i ∷ [])) e) x
+
+pub piece-status : {l m : List ℕ} {at a : ℕ} (i : ℕ) (p : Process) (t : List ℕ) → t ≡ pick p.up up_text down_text
+    → Piece (longest_of (length t) 1) l at (filled t (i ∷ [])) m a → Piece longest_status l at (status_part i p) m a
+piece-status i p t e x = status-chosen i p.up t e x
 
 -- the parts of a line
 pub piece-parts : {l m m' m'' : List ℕ} {at a b next : ℕ} (i : ℕ) (p : Process) (k : ℕ)
@@ -36,16 +46,19 @@ pub piece-parts : {l m m' m'' : List ℕ} {at a b next : ℕ} (i : ℕ) (p : Pro
 unfolding process_line
 piece-parts i p k x y z = piece-more x (piece-more y z)
 
-lines_more : (g : Group) (i : ℕ) {p : Process} {k : ℕ} → p ≡ record_of g (i + 1) → k ≡ depth_of g (i + 1) → process_lines g i ++ process_line (i + 1) p k ≡ process_lines g (i + 1)
+lines_more : (g : Group) (i : ℕ) {p : Process} {k : ℕ} → 1 ≤ i → p ≡ record_of g i → k ≡ depth_of g i → process_lines g (i - 1) ++ process_line i p k ≡ process_lines g i
 unfolding process_lines line_of_process
-lines_more g i e d =
-    ap₂ (λ (p : Process) (k : ℕ). process_lines g i ++ process_line (i + 1) p k) e d
-    ∙ ap (λ (j : ℕ). process_lines g i ++ line_of_process g j) (add-one i) ∙ ap (process_lines g) (sym (add-one i))
+lines_more g zero h e d = absurd (omega arith)
+lines_more g (suc i) h e d =
+    let before : suc i - 1 ≡ i = omega arith in
+    ap₂ (λ (p : Process) (k : ℕ). process_lines g (suc i - 1) ++ process_line (suc i) p k) e d
+    ∙ ap (λ (j : ℕ). process_lines g j ++ line_of_process g (suc i)) before
 
-pub piece-line : {l m m' : List ℕ} {at next next' : ℕ} (g : Group) (i : ℕ) {p : Process} {k : ℕ} → p ≡ record_of g (i + 1) → k ≡ depth_of g (i + 1)
-    → Piece (i * longest_line) l at (process_lines g i) m next → Piece longest_line m next (process_line (i + 1) p k) m' next'
-    → Piece ((i + 1) * longest_line) l at (process_lines g (i + 1)) m' next'
-piece-line g i e d x y = piece-within (omega arith) (lines_more g i e d) (piece-more x y)
+-- the line of process i behind those before it
+pub piece-line : {l m m' : List ℕ} {at next next' n : ℕ} (g : Group) (i : ℕ) {p : Process} {k : ℕ} → 1 ≤ i → i ≡ n → p ≡ record_of g i → k ≡ depth_of g i
+    → Piece ((i - 1) * longest_line) l at (process_lines g (i - 1)) m next → Piece longest_line m next (process_line i p k) m' next'
+    → Piece (n * longest_line) l at (process_lines g n) m' next'
+piece-line g i h same e d x y = piece-within (omega arith) (lines_more g i h e d ∙ ap (process_lines g) same) (piece-more x y)
 
 -- ---- a run's group
 

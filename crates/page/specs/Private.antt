@@ -1,13 +1,7 @@
 -- For the contracts of private functions alone. Assumes nothing.
-use Rattle.std.specs.Prelude.{Bool, false, List, ℕ, ◌+◌, ◌*◌, ◌≤◌, eqb, ltb, length}
+use Rattle.std.specs.Prelude.{List, ℕ, ◌+◌, ◌*◌, ◌≤◌, length}
 use Rattle.rules.specs.Limits.{greatest_size}
-use Rattle.text.specs.Number.{pick}
 use Rattle.text.specs.Put.{Wrote}
-use Rattle.page.specs.Filled.{mark}
-
--- does a byte of a template stand for a number, with k of n taken
-unfoldable pub takes : ℕ → ℕ → ℕ → Bool
-takes b k n = pick (eqb b mark) (ltb k n) false
 
 -- t was written at a place of l, and has at most k bytes
 pub record Piece (k : ℕ) (l : List ℕ) (at : ℕ) (t m : List ℕ) (next : ℕ) : Type 0 where

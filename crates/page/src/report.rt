@@ -6,7 +6,7 @@ ghost use Rattle.page.specs.Private as private;
 ghost use Rattle.page.specs.Report as reports;
 ghost use Rattle.page.specs.Private.{Piece};
 
-use crate::line::{fill, fill_either};
+use crate::line::fill;
 use rules::group::Group;
 use rules::process::Process;
 use rules::store::Store;
@@ -69,21 +69,14 @@ pub(crate) fn put_process(out: &mut [u8], at: usize, i: u32, p: Process, depth: 
     let phase = p.phase as u32;
     let proposer = p.proposer as u32;
     let recoveries = p.recoveries as u32;
-    let number = [i];
-    let estimate = [round, phase, proposer, p.value];
-    let decided = [p.decision, recoveries, depth as u32];
-    let undecided = [recoveries];
-    let a = fill_either(out, at, p.up, b"# up", &number, b"# down", &number);
-    let b = fill(out, a, b" # # # #", &estimate);
-    fill_either(
-        out,
-        b,
-        p.decided,
-        b" # # #\n",
-        &decided,
-        b" - # -\n",
-        &undecided,
-    )
+    let status: &[u8] = if p.up { b"# up" } else { b"# down" };
+    let a = fill(out, at, status, &[i]);
+    let b = fill(out, a, b" # # # #", &[round, phase, proposer, p.value]);
+    if p.decided {
+        fill(out, b, b" # # #\n", &[p.decision, recoveries, depth as u32])
+    } else {
+        fill(out, b, b" - # -\n", &[recoveries])
+    }
 }
 
 // The lines of a group's processes.
@@ -92,10 +85,8 @@ pub(crate) fn put_processes(out: &mut [u8], at: usize, group: Group) -> usize
     ensures { Piece (group.n * private.longest_line) out.old at (reports.process_lines group group.n) out.new result }
 {
     let n = group.n as u32;
-    let mut i: u32 = 0;
     let mut place = at;
-    while i < n {
-        i += 1;
+    for i in 1..=n {
         place = put_process(out, place, i, group.process(i), group.depth(i));
     }
     place

@@ -1,30 +1,26 @@
--- The laws of writing a text at a place: the loop that copies it, the kit's digits, one piece after another, and what no room leaves. Assumes nothing.
+-- The laws of writing a text at a place: the copy, the kit's digits, one piece after another, and what no room leaves. Assumes nothing.
 use Prim.Native.Nat.{ℕ, zero, suc, ◌+◌, ◌-◌, ◌/◌, ◌%◌, ◌^◌, ◌≤◌, ◌<◌}
 use mathlib.Core.Path.{◌≡◌, refl, sym, ap, ap₂, ◌∙◌, subst}
 use mathlib.Core.Bool.{Bool, true, false}
 use mathlib.Core.List.{List, [], ◌∷◌, ◌++◌, append_assoc}
 use native.Mathlib.Omega.{arith}
-use native.Mathlib.Numerals.{add-one}
 use native.Mathlib.Nat.{pow-suc}
 use native.Mathlib.Decide.{dec_lt}
 use lib.Dec.{leb}
-use lib.ListN.{length, get_or, take, drop, set, length-append}
-use lib.Seq.{paste, paste-zero, paste-suc, length-paste, take-length, length-take-le, take_at, drop-drop, drop-append-add}
-use borrow.Author.Tests.{lt-ltb, le-leb, lt-leb}
+use lib.ListN.{length, take, drop, set, length-append}
+use Rattle.std.proofs.lemmas.List.{take-append-drop, take_more_set, drop-set-lt}
+use lib.Seq.{paste, paste-zero, length-paste, take-length, length-take-le, take_at, drop-drop, drop-append-add}
+use borrow.Author.Tests.{lt-ltb, le-leb}
 use Rattle.io.specs.Digits.{last_digits, hex_digit_ascii, IsDigitCount}
 use Rattle.text.specs.Number.{most, spell, spelled}
 use Rattle.text.specs.Put.{put, Wrote, PutsIf, Puts}
 use Rattle.text.proofs.SpellLaws.{Small, small-9, spell_one, spell-more}
 
--- ---- the loop that copies
+-- ---- the copy
 
 pub put_all : (l : List ℕ) (at : ℕ) (t : List ℕ) → paste l at t (length t) ≡ put l at t
 unfolding put
 put_all l at t = ap (λ (x : List ℕ). take at l ++ x ++ drop (at + length t) l) (take-length t)
-
-pub copy_more : (l : List ℕ) (at : ℕ) (t : List ℕ) (i : ℕ) → at + length t ≤ length l → i < length t
-    → set (paste l at t i) (at + i) (get_or t i 0) ≡ paste l at t (i + 1)
-copy_more l at t i h g = paste-suc l at t i 0 (omega arith) g ∙ ap (paste l at t) (sym (add-one i))
 
 -- ---- one piece after another
 
@@ -123,24 +119,14 @@ wrote_none l at h = record { room = omega arith; bytes = paste-zero l at [] ∙ 
 
 -- one byte
 pub wrote-byte : (l : List ℕ) (at b : ℕ) → at < length l → Wrote l at (b ∷ []) (set l at b) (at + 1)
-wrote-byte l at b h =
-    let here : at + 0 ≡ at = omega arith in
-    record {
-      room = omega arith;
-      bytes = ap₂ (λ (x : List ℕ) (k : ℕ). set x k b) (paste-zero l at (b ∷ [])) (sym here)
-          ∙ copy_more l at (b ∷ []) 0 (omega arith) (omega arith) ∙ put_all l at (b ∷ []);
-      end = omega arith;
-    }
+unfolding put
+wrote-byte l at b h = record {
+  room = omega arith;
+  bytes = sym (take-append-drop (at + 1) (set l at b)) ∙ ap₂ (λ (x y : List ℕ). x ++ y) (take_more_set l at b h) (drop-set-lt (at + 1) l at b (omega arith));
+  end = omega arith;
+}
 
 -- ---- a text that may have no room
-
--- from a place within the array on
-pub room-left : (at n room : ℕ) → at ≤ room → leb n (room - at) ≡ leb (at + n) room
-room-left at n room h = go (dec_lt (room - at) n)
-  where
-    go : Dec (room - at < n) → leb n (room - at) ≡ leb (at + n) room
-    go (yes p) = lt-leb n (room - at) p ∙ sym (lt-leb (at + n) room (omega arith))
-    go (no p) = le-leb n (room - at) (omega arith) ∙ sym (le-leb (at + n) room (omega arith))
 
 module _ (l : List ℕ) (at : ℕ) (t m : List ℕ) (next : ℕ) where
   puts-if : (b : Bool) → leb (at + length t) (length l) ≡ b → PutsIf b l at t m next → Puts l at t m next

@@ -1,5 +1,6 @@
 // Texts and numbers, written one after the other into a lent array.
 // Where a text has no room from its place on, nothing is written, and the place is answered as it was.
+// The array and the place stay two parameters, and no room stays a place and no `None`: the clause `Puts` of `put_bytes` and `put_number` says both, of every input.
 ghost use Rattle.std.specs.Prelude.{◌≡◌, ◌+◌, leb};
 ghost use Rattle.text.specs.Number.{spelled};
 ghost use Rattle.text.specs.Put.{Puts};
@@ -8,10 +9,7 @@ ghost use Rattle.text.specs.Put.{Puts};
 pub(crate) fn has_room(at: usize, length: usize, room: usize) -> bool
     ensures { result ≡ leb (at + length) room }
 {
-    if room < at {
-        return false;
-    }
-    length <= room - at
+    at <= room && length <= room - at
 }
 
 // Puts a text at a place, and answers the place after it.
@@ -21,12 +19,9 @@ pub fn put_bytes(out: &mut [u8], at: usize, text: &[u8]) -> usize
     if !has_room(at, text.len(), out.len()) {
         return at;
     }
-    let mut i = 0;
-    while i < text.len() {
-        out[at + i] = text[i];
-        i += 1;
-    }
-    at + i
+    let end = at + text.len();
+    out[at..end].copy_from_slice(text);
+    end
 }
 
 // Puts a number's digits at a place, and answers the place after them.
