@@ -8,7 +8,7 @@ use lib.ListN.{length, drop}
 use borrow.Author.Tests.{eq-eqb, ne_eqb}
 use Rattle.rules.specs.Limits.{greatest_size}
 use Rattle.rules.specs.Layout.{blank_group}
-use Rattle.rules.specs.Records.{record_of, depth_of}
+use Rattle.rules.specs.Layout.{record_of, depth_of}
 use Rattle.rules.specs.Start.{started}
 use Rattle.rules.specs.Run.{State, start_state, next, after}
 use Rattle.rules.specs.declared.group.Group.{Group}

@@ -4,6 +4,7 @@ ghost use Rattle.rules.specs.Answers.{said};
 ghost use Rattle.schedule.specs.Counts as counts;
 ghost use Rattle.schedule.specs.Private as private;
 
+use rules::refusal::Refusal;
 use rules::step::Answer;
 
 // How many steps a section has; how many of them were applied, idle and refused; how many messages were handed over, and how many of them again; how many processes decided.
@@ -48,43 +49,29 @@ impl Counts {
         }
     }
 
-    // With one more step, which answered so.
-    pub(crate) fn counted(self, answer: Answer) -> Counts
+    #[tactic(auto, unfolding(crate::specs::Private::counted, rules::specs::Answers::said, rules::specs::Answers::is_refused))]
+    // With one more step, which answered so or was refused.
+    pub(crate) fn counted(mut self, answer: Result<Answer, Refusal>) -> Counts
         requires { private.Room self }
         ensures { result ≡ private.counted self (said answer) }
     {
+        self.steps += 1;
         match answer {
-            Answer::Idle => Counts {
-                steps: self.steps + 1,
-                applied: self.applied,
-                idle: self.idle + 1,
-                refused: self.refused,
-                sent: self.sent,
-                again: self.again,
-                decided: self.decided,
-            },
-            Answer::Refused(_) => Counts {
-                steps: self.steps + 1,
-                applied: self.applied,
-                idle: self.idle,
-                refused: self.refused + 1,
-                sent: self.sent,
-                again: self.again,
-                decided: self.decided,
-            },
-            Answer::Applied {
-                sent,
-                again,
-                decided,
-            } => Counts {
-                steps: self.steps + 1,
-                applied: self.applied + 1,
-                idle: self.idle,
-                refused: self.refused,
-                sent: self.sent + sent as u32,
-                again: self.again + again as u32,
-                decided: self.decided + decided as u32,
-            },
+            Ok(Answer::Idle) => self.idle += 1,
+            Ok(
+                Answer::Applied {
+                    sent,
+                    again,
+                    decided,
+                },
+            ) => {
+                self.applied += 1;
+                self.sent += sent as u32;
+                self.again += again as u32;
+                self.decided += decided as u32;
+            }
+            Err(_) => self.refused += 1,
         }
+        self
     }
 }

@@ -1,7 +1,6 @@
 // The run of a schedule file over a lent store and the lent depths of its messages: the file is checked first, and its steps are taken while it is read again.
 ghost use Rattle.std.specs.Prelude.{◌≡◌, ◌||◌, ltb};
 ghost use Rattle.rules.specs.Limits.{store_length};
-ghost use Rattle.rules.specs.Layout.{group_of};
 ghost use Rattle.schedule.specs.Run as runs;
 ghost use Rattle.schedule.specs.Private.{RunReady, RanTo, BothReady, BothRan, FormGood, SoundRan};
 
@@ -9,9 +8,8 @@ use crate::counts::Counts;
 use crate::fault::Fault;
 use crate::file::{Places, form_of};
 use crate::reader;
-use rules::group::{Bytes, Flags, Group, Halves, Words};
+use rules::group::Group;
 use rules::store::Store;
-use rules::take::step_sound;
 
 // What a file's run gives: its fault, and then no step was run; or no fault, the counts of its two sections, and the group at the end.
 #[derive(Clone, Copy)]
@@ -42,16 +40,12 @@ pub(crate) fn run_steps(
     s: &[u8],
     at: usize,
     count: u32,
-    n: u8,
-    words: &mut Words,
-    halves: &mut Halves,
-    bytes: &mut Bytes,
-    flags: &mut Flags,
+    group: &mut Group,
     store: &mut [u64],
     depths: &mut [u16],
 ) -> Counts
-    requires { RunReady s.now at count (group_of n words.old halves.old bytes.old flags.old) store.old depths.old }
-    ensures { RanTo s.now at count (group_of n words.old halves.old bytes.old flags.old) store.old depths.old (group_of n words.new halves.new bytes.new flags.new) store.new depths.new result }
+    requires { RunReady s.now at count group.old store.old depths.old }
+    ensures { RanTo s.now at count group.old store.old depths.old group.new store.new depths.new result }
 {
     let mut counts = Counts::none();
     let mut i: u32 = 0;
@@ -59,7 +53,7 @@ pub(crate) fn run_steps(
     while i < count {
         let taken = reader::step_at(s, place);
         let step = taken.step;
-        let answer = step_sound(n, words, halves, bytes, flags, store, depths, step);
+        let answer = group.step_sound(store, depths, step);
         counts = counts.counted(answer);
         place = taken.next;
         i += 1;
@@ -78,42 +72,9 @@ pub(crate) fn run_both(
     requires { BothReady s.now places group store.old depths.old }
     ensures { BothRan s.now places group store.old depths.old result store.new depths.new }
 {
-    let n = group.n;
-    let mut words = group.words;
-    let mut halves = group.halves;
-    let mut bytes = group.bytes;
-    let mut flags = group.flags;
-    let warmup = run_steps(
-        s,
-        places.start,
-        places.warmup,
-        n,
-        &mut words,
-        &mut halves,
-        &mut bytes,
-        &mut flags,
-        store,
-        depths,
-    );
-    let measured = run_steps(
-        s,
-        places.middle,
-        places.measured,
-        n,
-        &mut words,
-        &mut halves,
-        &mut bytes,
-        &mut flags,
-        store,
-        depths,
-    );
-    let last = Group {
-        n: n,
-        words: words,
-        halves: halves,
-        bytes: bytes,
-        flags: flags,
-    };
+    let mut last = group;
+    let warmup = run_steps(s, places.start, places.warmup, &mut last, store, depths);
+    let measured = run_steps(s, places.middle, places.measured, &mut last, store, depths);
     let fault = Fault::none();
     Ran {
         fault: fault,

@@ -1,26 +1,14 @@
 -- The laws of a section's counts: what one more answer adds, and that answers counted one by one are those of the section. Assumes nothing.
-use mathlib.Core.Path.{◌≡◌, refl, sym, ap, ◌∙◌}
-use mathlib.Core.Bool.{Bool, true, false}
+use mathlib.Core.Path.{◌≡◌, ◌∙◌}
 use mathlib.Core.List.{List, [], ◌∷◌}
 use lib.ListN.{length}
 use native.Mathlib.Omega.{arith}
-use Prim.Native.Nat.{ℕ, ◌+◌, ◌≤◌}
-use mir.Val.{bool_byte}
+use Prim.Native.Nat.{ℕ, ◌+◌}
 use Rattle.rules.specs.Tally.{bit_of}
-use Rattle.rules.specs.Answers.{Said, said, is_refused, total, all_sent, all_again}
-use Rattle.rules.specs.declared.step.Answer.{Answer}
-use Rattle.rules.specs.declared.step.Answer.TheVariants.{Idle, Applied, Refused}
+use Rattle.rules.specs.Answers.{Said, is_refused, total, all_sent, all_again}
 use Rattle.schedule.specs.Counts.{none, counts_in}
 use Rattle.schedule.specs.Private.{counted, counted_all}
 use Rattle.schedule.specs.declared.counts.Counts.{Counts}
-
-pub bool-one : (b : Bool) → bool_byte b ≤ 1
-bool-one true = omega arith
-bool-one false = omega arith
-
-bool-bit : (b : Bool) → bool_byte b ≡ bit_of b
-bool-bit true = refl
-bool-bit false = refl
 
 -- the counts with these many of each
 abbrev made : ℕ → ℕ → ℕ → ℕ → ℕ → ℕ → ℕ → Counts
@@ -28,34 +16,6 @@ made s a i r n m d = record { steps = s; applied = a; idle = i; refused = r; sen
 
 same_none : (n : ℕ) → n ≡ n + 0
 same_none n = omega arith
-
-module _ (c : Counts) where
-  pub counted-idle : {a : Answer} → a ≡ Idle
-      → made (c.steps + 1) c.applied (c.idle + 1) c.refused c.sent c.again c.decided ≡ counted c (said a)
-  unfolding counted said
-  counted-idle e =
-      (λ k.
-      made (c.steps + 1) (same_none c.applied k) (c.idle + 1) (same_none c.refused k) (same_none c.sent k) (same_none c.again k)
-      (same_none c.decided k))
-      ∙ ap (λ (x : Answer). counted c (said x)) (sym e)
-
-  pub counted-refused : {a : Answer} {j : ℕ} → a ≡ Refused j
-      → made (c.steps + 1) c.applied c.idle (c.refused + 1) c.sent c.again c.decided ≡ counted c (said a)
-  unfolding counted said
-  counted-refused e =
-      (λ k.
-      made (c.steps + 1) (same_none c.applied k) (same_none c.idle k) (c.refused + 1) (same_none c.sent k) (same_none c.again k)
-      (same_none c.decided k))
-      ∙ ap (λ (x : Answer). counted c (said x)) (sym e)
-
-  pub counted-applied : {a : Answer} {n m : ℕ} {d : Bool} → a ≡ Applied n m d
-      → made (c.steps + 1) (c.applied + 1) c.idle c.refused (c.sent + n) (c.again + m) (c.decided + bool_byte d) ≡ counted c (said a)
-  unfolding counted said
-  counted-applied {a} {n} {m} {d} e =
-      (λ k.
-      made (c.steps + 1) (c.applied + 1) (same_none c.idle k) (same_none c.refused k) (c.sent + n) (c.again + m)
-      (c.decided + bool-bit d k))
-      ∙ ap (λ (x : Answer). counted c (said x)) (sym e)
 
 -- ---- answer by answer
 
