@@ -5,6 +5,7 @@ use Rattle.rules.specs.declared.process.Process.{Process}
 use Rattle.rules.specs.declared.process.Next.{Next}
 use Rattle.rules.specs.declared.course.Address.{Address}
 use Rattle.rules.specs.declared.course.Heard.{Heard}
+use Rattle.rules.specs.declared.course.Carried.{Carried}
 use Rattle.rules.specs.declared.course.Taking.{Taking}
 use Rattle.rules.specs.declared.refusal.Refusal.{Refusal}
 use Rattle.rules.specs.declared.store.Kind.{Kind}
@@ -82,6 +83,10 @@ unfoldable pub heard_at : Option ℕ → List ℕ → List ℕ → Option Heard
 heard_at None l d = None
 heard_at (Some k) l d = Some (record { entry = get_or l k 0; depth = get_or d k 0 })
 
+-- what the entry e with the depth k carries
+unfoldable pub Carries : ℕ → ℕ → Carried → Type 0
+Carries e k c = (c.estimate.proposer ≡ proposer_of e) × (c.estimate.value ≡ value_of e) × (c.lift ≡ k + 1)
+
 unfoldable pub entry_heard : Option Heard → ℕ
 entry_heard None = 0
 entry_heard (Some h) = h.entry
@@ -113,22 +118,23 @@ unfoldable pub or_up : Bool → ℕ → Process → Course
 or_up true i p = Refuses 7
 or_up false i p = unless_many (too_many p.recoveries) i p
 
-unfoldable pub last_course : ℕ → ℕ → ℕ → Process → Step → Course
-last_course n i e p (DeliverE to from r c) = or_idle (idle_e p from r) c i p (on_e n i from r (proposer_of e) (value_of e) p)
-last_course n i e p (DeliverS to from r c) = or_idle (idle_s p from r) c i p (on_s n from p)
-last_course n i e p (DeliverF to from r c) = or_past (idle_f p from r) c i p (on_f n i from r (proposer_of e) (value_of e) p)
-last_course n i e p (DeliverDecision to from c) = or_idle p.decided c i p (on_decision (value_of e) p)
-last_course n i e p (Suspect to c) = or_impossible (may_suspect p) c i p
-last_course n i e p (Pause to) = Takes i (on_pause p)
-last_course n i e p (Crash to) = Takes i (on_crash p)
-last_course n i e p (Recover to) = or_up p.up i p
+-- where it carries the estimate (q, v)
+unfoldable pub last_course : ℕ → ℕ → ℕ → ℕ → Process → Step → Course
+last_course n i q v p (DeliverE to from r c) = or_idle (idle_e p from r) c i p (on_e n i from r q v p)
+last_course n i q v p (DeliverS to from r c) = or_idle (idle_s p from r) c i p (on_s n from p)
+last_course n i q v p (DeliverF to from r c) = or_past (idle_f p from r) c i p (on_f n i from r q v p)
+last_course n i q v p (DeliverDecision to from c) = or_idle p.decided c i p (on_decision v p)
+last_course n i q v p (Suspect to c) = or_impossible (may_suspect p) c i p
+last_course n i q v p (Pause to) = Takes i (on_pause p)
+last_course n i q v p (Crash to) = Takes i (on_crash p)
+last_course n i q v p (Recover to) = or_up p.up i p
 
 unfoldable pub unless_held : ℕ → Course → Course
 unless_held zero c = c
 unless_held (suc k) c = Refuses (suc k)
 
 unfoldable pub held_course : ℕ → ℕ → ℕ → ℕ → Process → Step → Course
-held_course n i e k p s = unless_held (held_rows n p.up e k (delivers s) (is_recover s)) (last_course n i e p s)
+held_course n i e k p s = unless_held (held_rows n p.up e k (delivers s) (is_recover s)) (last_course n i (proposer_of e) (value_of e) p s)
 
 -- ---- the way of a step: its course, with what lifts the depth of the process that takes it
 

@@ -34,21 +34,37 @@ pub struct Address {
     pub recovers: bool,
 }
 
-// A message that a step delivers: its entry and its depth.
+// A message that a step delivers, as it stands in the stores: its entry and its depth.
 #[derive(Clone, Copy)]
 pub struct Heard {
     pub entry: u64,
     pub depth: u16,
 }
 
-impl Heard {
-    // What a step that delivers no message hears.
-    pub(crate) fn nothing() -> Heard
-        ensures { (result.entry ≡ 0) × (result.depth ≡ 0) }
-    {
-        Heard { entry: 0, depth: 0 }
-    }
+// What it carries, once it is known to name a process of the group: an estimate, and what it lifts a depth to.
+#[derive(Clone, Copy)]
+pub struct Carried {
+    pub estimate: Estimate,
+    pub lift: u32,
+}
 
+impl Carried {
+    // What a step that delivers no message carries: as much as entry 0 and depth 0.
+    #[tactic(auto, unfolding(crate::specs::Private::Carries))]
+    pub(crate) fn nothing() -> Carried
+        ensures { private.Carries 0 0 result }
+    {
+        Carried {
+            estimate: Estimate {
+                proposer: 0,
+                value: 0,
+            },
+            lift: 1,
+        }
+    }
+}
+
+impl Heard {
     // The message at a place, if there is one.
     #[tactic(auto, unfolding(crate::specs::Private::heard_at))]
     pub(crate) fn at(store: &[u64], depths: &[u16], place: Option<usize>) -> Option<Heard>
@@ -62,37 +78,28 @@ impl Heard {
         })
     }
 
-    // What its entry carries.
-    pub(crate) fn estimate(self) -> Estimate
-        requires { stores.proposer_of self.entry ≤ limits.greatest_size }
-        ensures { (result.proposer ≡ stores.proposer_of self.entry) × (result.value ≡ stores.value_of self.entry) }
-    {
-        Store::estimate_of(self.entry)
-    }
-
-    // What it lifts a depth to.
-    pub(crate) fn lift(self) -> u32
-        ensures { result ≡ self.depth + 1 }
-    {
-        self.depth as u32 + 1
-    }
-
-    // Refusals 6, the entry's 2 and the message's 14 of a group of n; or the message.
-    #[tactic(auto, unfolding(crate::specs::Private::refused_by, crate::specs::Answers::number_of, crate::specs::Refusals::row, crate::specs::Limits::some_if))]
-    pub(crate) fn fits(self, n: Size) -> Result<Heard, Refusal>
+    // What it carries in a group of n; or refusal 6, the entry's 2 or the message's 14.
+    #[tactic(auto, unfolding(crate::specs::Private::refused_by, crate::specs::Private::Carries, crate::specs::Answers::number_of, crate::specs::Refusals::row, crate::specs::Limits::some_if))]
+    pub(crate) fn carried(self, n: Size) -> Result<Carried, Refusal>
         ensures rows { private.refused_by result ≡ private.heard_rows n self.entry self.depth }
-        ensures same { IfOk result (λ h. h ≡ self) }
+        ensures carries { IfOk result (private.Carries self.entry self.depth) }
     {
         if self.entry == 0 {
             return Err(Refusal::NotSent);
         }
-        if n.id((self.entry / Store::VALUES) as u32).is_none() {
+        let Some(proposer) = n.id((self.entry / Store::VALUES) as u32) else {
             return Err(Refusal::Damaged);
-        }
+        };
         if Store::DEEPEST < self.depth {
             return Err(Refusal::TooDeep);
         }
-        Ok(self)
+        Ok(Carried {
+            estimate: Estimate {
+                proposer: proposer.number(),
+                value: Store::value_of(self.entry),
+            },
+            lift: self.depth as u32 + 1,
+        })
     }
 }
 
@@ -184,23 +191,23 @@ impl Step {
     }
 }
 
-// Refusal 5, where a step meets a process that is down and does not recover it, and those of the message that it delivers; or what it hears.
+// What a step carries to a process; or refusal 5, where the process is down and the step does not recover it, or one of those of the message.
 #[tactic(auto, unfolding(crate::specs::Private::refused_by, crate::specs::Private::held_rows, crate::specs::Private::entry_heard, crate::specs::Private::depth_heard, crate::specs::Answers::number_of, crate::specs::Refusals::row))]
 pub(crate) fn held(
     n: Size,
     up: bool,
     heard: Option<Heard>,
     recovers: bool,
-) -> Result<Heard, Refusal>
+) -> Result<Carried, Refusal>
     ensures rows { private.refused_by result ≡ private.held_rows n up (private.entry_heard heard) (private.depth_heard heard) (is_some heard) recovers }
-    ensures same { IfOk result (λ h. (h.entry ≡ private.entry_heard heard) × (h.depth ≡ private.depth_heard heard)) }
+    ensures carries { IfOk result (private.Carries (private.entry_heard heard) (private.depth_heard heard)) }
 {
     if !recovers && !up {
         return Err(Refusal::Down);
     }
     match heard {
-        Some(message) => message.fits(n),
-        None => Ok(Heard::nothing()),
+        Some(message) => message.carried(n),
+        None => Ok(Carried::nothing()),
     }
 }
 
@@ -237,21 +244,20 @@ impl Process {
         seat: Seat,
         sender: Id,
         round: u8,
-        heard: Heard,
+        carried: Carried,
         cut: bool,
     ) -> Option<Taking>
-        requires { stores.proposer_of heard.entry ≤ limits.greatest_size }
-        ensures { private.told (Ok result) ≡ private.lifted (private.lift_unless (idleness.idle_e self sender round) (heard.depth + 1)) (steps.or_idle (idleness.idle_e self sender round) cut seat.i self (events.on_e seat.n seat.i sender round (stores.proposer_of heard.entry) (stores.value_of heard.entry) self)) }
+        ensures { private.told (Ok result) ≡ private.lifted (private.lift_unless (idleness.idle_e self sender round) carried.lift) (steps.or_idle (idleness.idle_e self sender round) cut seat.i self (events.on_e seat.n seat.i sender round carried.estimate.proposer carried.estimate.value self)) }
     {
         let i = seat.i;
         if self.idle_e(sender, round) {
             return self.idles(i, cut);
         }
-        let next = self.on_e(seat, sender, round, heard.estimate());
+        let next = self.on_e(seat, sender, round, carried.estimate);
         Some(Taking {
             taker: i,
             next: next.cut_if(cut),
-            lift: heard.lift(),
+            lift: carried.lift,
         })
     }
 
@@ -261,10 +267,10 @@ impl Process {
         seat: Seat,
         sender: Id,
         round: u8,
-        heard: Heard,
+        carried: Carried,
         cut: bool,
     ) -> Option<Taking>
-        ensures { private.told (Ok result) ≡ private.lifted (private.lift_unless (idleness.idle_s self sender round) (heard.depth + 1)) (steps.or_idle (idleness.idle_s self sender round) cut seat.i self (events.on_s seat.n sender self)) }
+        ensures { private.told (Ok result) ≡ private.lifted (private.lift_unless (idleness.idle_s self sender round) carried.lift) (steps.or_idle (idleness.idle_s self sender round) cut seat.i self (events.on_s seat.n sender self)) }
     {
         if self.idle_s(sender, round) {
             return self.idles(seat.i, cut);
@@ -273,7 +279,7 @@ impl Process {
         Some(Taking {
             taker: seat.i,
             next: next.cut_if(cut),
-            lift: heard.lift(),
+            lift: carried.lift,
         })
     }
 
@@ -284,39 +290,39 @@ impl Process {
         seat: Seat,
         sender: Id,
         round: u8,
-        heard: Heard,
+        carried: Carried,
         cut: bool,
     ) -> Result<Option<Taking>, Refusal>
-        requires { (self.round ≤ limits.last_round) × (round ≤ limits.last_round) × (stores.proposer_of heard.entry ≤ limits.greatest_size) }
-        ensures { private.told result ≡ private.lifted (private.lift_unless (idleness.idle_f self sender round) (heard.depth + 1)) (private.or_past (idleness.idle_f self sender round) cut seat.i self (events.on_f seat.n seat.i sender round (stores.proposer_of heard.entry) (stores.value_of heard.entry) self)) }
+        requires { (self.round ≤ limits.last_round) × (round ≤ limits.last_round) }
+        ensures { private.told result ≡ private.lifted (private.lift_unless (idleness.idle_f self sender round) carried.lift) (private.or_past (idleness.idle_f self sender round) cut seat.i self (events.on_f seat.n seat.i sender round carried.estimate.proposer carried.estimate.value self)) }
     {
         let i = seat.i;
         if self.idle_f(sender, round) {
             return Ok(self.idles(i, cut));
         }
-        let next = self.on_f(seat, sender, round, heard.estimate());
+        let next = self.on_f(seat, sender, round, carried.estimate);
         if Process::LAST_ROUND < next.process.round {
             return Err(Refusal::PastLastRound);
         }
         Ok(Some(Taking {
             taker: i,
             next: next.cut_if(cut),
-            lift: heard.lift(),
+            lift: carried.lift,
         }))
     }
 
     #[tactic(auto, unfolding(crate::specs::Private::told, crate::specs::Private::lifted, crate::specs::Private::lift_unless, crate::specs::Step::or_idle, crate::specs::Events::on_decision))]
-    pub(crate) fn way_decision(self, i: Id, heard: Heard, cut: bool) -> Option<Taking>
-        ensures { private.told (Ok result) ≡ private.lifted (private.lift_unless self.decided (heard.depth + 1)) (steps.or_idle self.decided cut i self (events.on_decision (stores.value_of heard.entry) self)) }
+    pub(crate) fn way_decision(self, i: Id, carried: Carried, cut: bool) -> Option<Taking>
+        ensures { private.told (Ok result) ≡ private.lifted (private.lift_unless self.decided carried.lift) (steps.or_idle self.decided cut i self (events.on_decision carried.estimate.value self)) }
     {
         if self.decided {
             return self.idles(i, cut);
         }
-        let next = self.on_decision(Store::value_of(heard.entry));
+        let next = self.on_decision(carried.estimate.value);
         Some(Taking {
             taker: i,
             next: next.cut_if(cut),
-            lift: heard.lift(),
+            lift: carried.lift,
         })
     }
 
@@ -350,11 +356,11 @@ impl Process {
     pub(crate) fn last_way(
         self,
         seat: Seat,
-        heard: Heard,
+        carried: Carried,
         step: Step,
     ) -> Result<Option<Taking>, Refusal>
-        requires { private.Numbered seat.n self step × (delivers step ≡ true → stores.proposer_of heard.entry ≤ limits.greatest_size) }
-        ensures { private.told result ≡ private.lifted (private.lifts self step (heard.depth + 1)) (private.last_course seat.n seat.i heard.entry self step) }
+        requires { private.Numbered seat.n self step }
+        ensures { private.told result ≡ private.lifted (private.lifts self step carried.lift) (private.last_course seat.n seat.i carried.estimate.proposer carried.estimate.value self step) }
     {
         match step {
             Step::DeliverE {
@@ -362,24 +368,24 @@ impl Process {
                 from,
                 round,
                 cut,
-            } => Ok(self.way_e(seat, Id::known(from), round as u8, heard, cut)),
+            } => Ok(self.way_e(seat, Id::known(from), round as u8, carried, cut)),
             Step::DeliverS {
                 to: _,
                 from,
                 round,
                 cut,
-            } => Ok(self.way_s(seat, Id::known(from), round as u8, heard, cut)),
+            } => Ok(self.way_s(seat, Id::known(from), round as u8, carried, cut)),
             Step::DeliverF {
                 to: _,
                 from,
                 round,
                 cut,
-            } => self.way_f(seat, Id::known(from), round as u8, heard, cut),
+            } => self.way_f(seat, Id::known(from), round as u8, carried, cut),
             Step::DeliverDecision {
                 to: _,
                 from: _,
                 cut,
-            } => Ok(self.way_decision(seat.i, heard, cut)),
+            } => Ok(self.way_decision(seat.i, carried, cut)),
             Step::Suspect { process: _, cut } => self.way_suspect(seat.i, cut),
             Step::Pause { process: _ } => Ok(way_on(seat.i, self.on_pause())),
             Step::Crash { process: _ } => Ok(way_on(seat.i, self.on_crash())),
@@ -399,8 +405,8 @@ impl Process {
         requires { private.Numbered seat.n self step × (is_some heard ≡ delivers step) × (recovers ≡ refusals.is_recover step) }
         ensures { private.told result ≡ private.lifted (private.lifts self step (private.depth_heard heard + 1)) (private.held_course seat.n seat.i (private.entry_heard heard) (private.depth_heard heard) self step) }
     {
-        let heard = held(seat.n, self.up, heard, recovers)?;
-        self.last_way(seat, heard, step)
+        let carried = held(seat.n, self.up, heard, recovers)?;
+        self.last_way(seat, carried, step)
     }
 }
 

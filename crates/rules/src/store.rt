@@ -8,7 +8,7 @@ ghost use Rattle.rules.specs.Tally.{bit_of};
 ghost use Rattle.rules.specs.Private as private;
 
 use crate::group::Group;
-use crate::process::{Estimate, Message, Next, Process};
+use crate::process::{Message, Next, Process};
 use crate::size::Id;
 
 // The kinds of messages that have a round; the value of each as a number is its place among the three of a round and a process.
@@ -34,6 +34,8 @@ pub struct Traffic {
 }
 
 // The store itself is a slice of 64-bit entries that the caller lends, and the depths one of 16-bit numbers; this type has their limits.
+// The two are lent side by side and not in a struct: the contract of whatever takes such a struct has to say that it still holds the same two references, which is no plainer than saying
+// that both are long enough.
 #[derive(Clone, Copy)]
 pub struct Store {}
 
@@ -97,17 +99,7 @@ impl Store {
         (proposer as u64) * Store::VALUES + (value as u64)
     }
 
-    // The estimate of an entry that names one of 1..16, and the value of any entry.
-    pub(crate) fn estimate_of(entry: u64) -> Estimate
-        requires { stores.proposer_of entry ≤ limits.greatest_size }
-        ensures { (result.proposer ≡ stores.proposer_of entry) × (result.value ≡ stores.value_of entry) }
-    {
-        Estimate {
-            proposer: (entry / Store::VALUES) as u8,
-            value: Store::value_of(entry),
-        }
-    }
-
+    // The value of an entry.
     pub(crate) fn value_of(entry: u64) -> u32
         ensures { result ≡ stores.value_of entry }
     {

@@ -15,7 +15,7 @@ use Rattle.rules.specs.declared.step.Step.{Step}
 use Rattle.rules.specs.declared.step.Step.TheVariants.{DeliverE, DeliverS, DeliverF, DeliverDecision, Suspect, Pause, Crash, Recover}
 use Rattle.rules.specs.Limits.{greatest_size, last_round, too_many, store_length, among}
 use Rattle.rules.specs.Layout.{process_at, with_process, with_depth}
-use Rattle.rules.specs.Store.{proposer_of, one}
+use Rattle.rules.specs.Store.{proposer_of, value_of, one}
 use Rattle.rules.specs.Depths.{delivered_depth, depth_after, dated_both}
 use Rattle.rules.specs.Refusals.{row, every, short, strange, late, is_recover, down, unsent, misnamed, may_suspect, impossible, recovers_past, enters_past, damaged, too_deep}
 use Rattle.rules.specs.Refusals.{refusal}
@@ -26,7 +26,7 @@ use Rattle.rules.specs.Kinds.{taker_of, numbers_of, round_of, delivers, slot_of,
 use Rattle.rules.specs.Idle.{idle}
 use Rattle.rules.specs.declared.store.Traffic.{Traffic}
 use Rattle.rules.specs.Private.{Misses, At, number_rows, unless_missed, address_of, held_rows, unless_past, or_past, or_impossible, or_up, last_course, unless_held, held_course, Numbered, Handable, HandsOverBoth}
-use Rattle.rules.proofs.Laws.Row.{or_else, number-else, held-else, delivered-zero, owned-zero, held-zero}
+use Rattle.rules.proofs.Laws.Row.{or_else, number-else, held-else, delivered-zero, owned-zero}
 use Rattle.rules.proofs.Laws.Step.{up-yes, up-many, up-no}
 use Rattle.rules.proofs.Laws.Sound.{sound-facts}
 use Rattle.rules.proofs.Laws.Passing.{deep-sound, course-takes}
@@ -147,7 +147,7 @@ recover-course g l d i z = go (process_at g i).up (too_many (process_at g i).rec
 
 -- every kind
 last-course : (g : Group) (l d : List ℕ) (s : Step) → refusal g l d s ≡ rest g l s
-    → last_course g.n (taker_of s) (entry_in l s) (process_at g (taker_of s)) s ≡ course g l d s
+    → last_course g.n (taker_of s) (proposer_of (entry_in l s)) (value_of (entry_in l s)) (process_at g (taker_of s)) s ≡ course g l d s
 unfolding last_course impossible recovers_past enters_past row or_idle idle is_cut taker_of event_of cut_if
 last-course g l d (DeliverE i j r c) z = passes g l d (DeliverE i j r c) z
 last-course g l d (DeliverS i j r c) z = passes g l d (DeliverS i j r c) z
@@ -258,12 +258,6 @@ module _ (n i j r : ℕ) (c : Bool) {s : Step} (h : n ≤ greatest_size) (z : nu
   pub numbers-F : s ≡ DeliverF i j r c → Numbers n j r
   unfolding number_rows numbers_of every late round_of
   numbers-F e = let d = delivered-zero n i j r (rw e at z) in (d.from_low, le_trans d.from-high h, d.round)
-
--- of a delivered entry: its proposer
-pub held-names : (n : ℕ) (up : Bool) (e k : ℕ) (s : Step) → n ≤ greatest_size → held_rows n up e k (delivers s) (is_recover s) ≡ 0
-    → delivers s ≡ true → proposer_of e ≤ greatest_size
-held-names n up e k s h z d =
-    le_trans (held-zero n up e k (is_recover s) (ap (λ (b : Bool). held_rows n up e k b (is_recover s)) (sym d) ∙ z)).1 h
 
 -- ---- the outcome of a course
 
