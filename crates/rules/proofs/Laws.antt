@@ -14,6 +14,5 @@ pub mod Sound
 pub mod Passing
 pub mod Whole
 -- the course of a step as the code comes to it
-pub mod Step
 pub mod Course
 pub mod Way

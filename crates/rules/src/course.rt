@@ -211,7 +211,7 @@ pub(crate) fn held(
     }
 }
 
-// ---- ways of one process
+// ---- ways of one process. Those of the four kinds of delivery are four functions: one that is given the idle test and the event costs a fifth of a step more (docs/SPEED.md)
 
 // A step that hears nothing and is taken.
 #[tactic(auto, unfolding(crate::specs::Private::told, crate::specs::Private::lifted))]
@@ -351,7 +351,7 @@ impl Process {
         Ok(way_on(i, self.on_recover()))
     }
 
-    // The way of a step that none of 11 to the message's 14 stops.
+    // The way of a step that none of 11 to the message's 14 stops: a match over the eight kinds, in which each arm is a call. A table of functions would be these arms again.
     #[tactic(auto, unfolding(crate::specs::Private::last_course, crate::specs::Private::lifts, crate::specs::Kinds::delivers))]
     pub(crate) fn last_way(
         self,

@@ -18,6 +18,7 @@ pub struct Member {
 }
 
 // n processes; process i stands at i - 1. A group may have any n and any records: a damaged one is refused, and left as it was.
+// n stands beside sixteen places since nothing is allocated, and the records above n are there and blank.
 #[derive(Clone, Copy)]
 pub struct Group {
     pub n: u8,
@@ -76,7 +77,7 @@ impl Group {
     // The greatest depth that a process can have.
     pub const DEEPEST: u16 = 3088;
 
-    // The constant is the definitions' limit.
+    // The constant is the definitions' limit. It takes a function to say so: a constant has no clause of its own.
     pub(crate) fn deepest() -> u16
         ensures { result ≡ limits.deepest_process }
     {

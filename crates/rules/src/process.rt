@@ -99,7 +99,7 @@ impl Process {
     // The last round that a process can be in.
     pub const LAST_ROUND: u8 = 63;
 
-    // The constant is the definitions' limit.
+    // The constant is the definitions' limit. It takes a function to say so: a constant has no clause of its own.
     pub(crate) fn last_round() -> u8
         ensures { result ≡ limits.last_round }
     {
@@ -303,7 +303,7 @@ impl Process {
         }
     }
 
-    // An F of a round from the sender, to process i of n.
+    // An F of a round from the sender, to process i of n. That neither round is past the last is asked, and is no type's: a group may hold any round, and is damaged then.
     #[tactic(auto, unfolding(crate::specs::Events::on_f, crate::specs::Events::changed))]
     pub(crate) fn on_f(self, seat: Seat, sender: Id, round: u8, carried: Estimate) -> Next
         requires { (self.round ≤ limits.last_round) × (round ≤ limits.last_round) }

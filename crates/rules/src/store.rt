@@ -47,7 +47,7 @@ impl Store {
     // The greatest depth that a message can have.
     pub const DEEPEST: u16 = Group::DEEPEST - 1;
 
-    // The constant is the definitions' limit.
+    // The constant is the definitions' limit. It takes a function to say so: a constant has no clause of its own.
     pub(crate) fn deepest() -> u16
         ensures { result ≡ limits.deepest_message }
     {

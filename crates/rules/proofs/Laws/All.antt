@@ -1,9 +1,8 @@
 -- The laws of `all_of`: where it starts and how it goes on, what one that fails does, what each of them says, and two tests at once. Assumes nothing.
 use mathlib.Core.Path.{◌≡◌, refl, sym, ap, ap₂, ◌∙◌}
 use mathlib.Core.Bool.{Bool, true, false, ◌&&◌, and-false}
-use Prim.Native.Nat.{ℕ, zero, suc, ◌+◌, ◌≤◌}
+use Prim.Native.Nat.{ℕ, zero, suc, ◌≤◌}
 use native.Mathlib.Decide.{ℕ_discrete}
-use native.Mathlib.Numerals.{add-one}
 use native.Mathlib.Omega.{arith}
 use Rattle.rules.specs.Refusals.{all_of}
 
@@ -12,11 +11,6 @@ module _ (p : ℕ → Bool) where
   pub all_none : all_of p 0 ≡ true
   unfolding all_of
   all_none = refl
-
-  -- where it holds of n and of the next, it holds of one more
-  pub all_more : (n : ℕ) → all_of p n ≡ true → p (n + 1) ≡ true → all_of p (n + 1) ≡ true
-  unfolding all_of
-  all_more n h g = rw (add-one n) (ap₂ ◌&&◌ h (rw (add-one n) at g))
 
   -- one that fails, at k of 1..n, fails them all
   pub all-fails : (n k : ℕ) → 1 ≤ k → k ≤ n → p k ≡ false → all_of p n ≡ false

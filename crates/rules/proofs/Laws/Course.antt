@@ -21,13 +21,12 @@ use Rattle.rules.specs.Refusals.{row, every, short, strange, late, is_recover, d
 use Rattle.rules.specs.Refusals.{refusal}
 use Rattle.rules.specs.Answers.{says_applied, says_idle, says_refused, outcome}
 use Rattle.rules.specs.Step.{Idles, Refuses, Takes, or_idle, unless_refused, handed_of, hand_overs, sent_by, again_by, decides_now, course, settled, stepped, Ready}
-use Rattle.rules.specs.Events.{cut_if}
+use Rattle.rules.specs.Events.{cut_if, on_recover}
 use Rattle.rules.specs.Kinds.{taker_of, numbers_of, round_of, delivers, slot_of, is_cut, entry_in, event_of}
 use Rattle.rules.specs.Idle.{idle}
 use Rattle.rules.specs.declared.store.Traffic.{Traffic}
-use Rattle.rules.specs.Private.{Misses, At, number_rows, unless_missed, address_of, held_rows, unless_past, or_past, or_impossible, or_up, last_course, unless_held, held_course, Numbered, Handable, HandsOverBoth}
+use Rattle.rules.specs.Private.{unless_many, Misses, At, number_rows, unless_missed, address_of, held_rows, unless_past, or_past, or_impossible, or_up, last_course, unless_held, held_course, Numbered, Handable, HandsOverBoth}
 use Rattle.rules.proofs.Laws.Row.{or_else, number-else, held-else, delivered-zero, owned-zero}
-use Rattle.rules.proofs.Laws.Step.{up-yes, up-many, up-no}
 use Rattle.rules.proofs.Laws.Sound.{sound-facts}
 use Rattle.rules.proofs.Laws.Passing.{deep-sound, course-takes}
 
@@ -132,6 +131,20 @@ suspect-course g l d i c z = go (may_suspect (process_at g i)) refl
     go : (m : Bool) → may_suspect (process_at g i) ≡ m → or_impossible (may_suspect (process_at g i)) c i (process_at g i) ≡ course g l d (Suspect i c)
     go true e = rw e (passes g l d (Suspect i c) (z ∙ rw e))
     go false e = rw e (refuses g l d (Suspect i c) (z ∙ rw e) (λ a. omega arith))
+
+module _ (i : ℕ) (p : Process) where
+  -- a recovery of a process that is up, one that would be too many, and one that is taken
+  pub up-yes : {b : Bool} → b ≡ true → Refuses 7 ≡ or_up b i p
+  unfolding or_up
+  up-yes e = rw e
+
+  pub up-many : {b : Bool} → b ≡ false → too_many p.recoveries ≡ true → Refuses 13 ≡ or_up b i p
+  unfolding or_up unless_many
+  up-many e t = rw (e, t)
+
+  pub up-no : {b : Bool} → b ≡ false → too_many p.recoveries ≡ false → Takes i (on_recover p) ≡ or_up b i p
+  unfolding or_up unless_many
+  up-no e t = rw (e, t)
 
 -- a recovery: refused by 7 where the process is up and by 13 where it would be too many, else taken
 recover-course : (g : Group) (l d : List ℕ) (i : ℕ) → refusal g l d (Recover i) ≡ rest g l (Recover i)

@@ -6,7 +6,7 @@ use mathlib.Core.Logic.{◌≢◌}
 use Prim.Native.Nat.{ℕ, zero, suc, ◌-◌, ◌≤◌, ◌<◌}
 use native.Mathlib.Decide.{ℕ_discrete}
 use native.Mathlib.Omega.{arith}
-use lib.ListN.{length, get_or, set, replicate, length-set, length-map}
+use lib.ListN.{length, get_or, set, replicate, length-set}
 use lib.Seq.{get_or-set_same, get_or-set_other}
 use Rattle.rules.specs.declared.group.Group.{Group}
 use Rattle.rules.specs.declared.group.Member.{Member}
@@ -104,10 +104,6 @@ map-set (x ∷ l) (suc k) m = ap (λ (t : List Member). shallow x ∷ t) (map-se
 pub process-forgets : (g : Group) (j : ℕ) → process_at (forgetting g) j ≡ process_at g j
 unfolding process_at forgetting
 process-forgets g j = ap (λ (m : Member). m.process) (map-get g.members (j - 1))
-
-pub sized-forgets : (g : Group) → Sized g → Sized (forgetting g)
-unfolding forgetting
-sized-forgets g s = record { members = simp length-map s.members }
 
 -- every depth is 0
 pub depth-forgets : (g : Group) (j : ℕ) → depth_at (forgetting g) j ≡ 0

@@ -6,7 +6,7 @@ use lib.Dec.{eqb, ltb}
 use Rattle.rules.specs.declared.process.Process.{Process}
 use Rattle.rules.specs.declared.process.Next.{Next}
 use Rattle.rules.specs.Limits.{coordinator, last_round}
-use Rattle.rules.specs.Events.{takes, enters, jumps, jumps_if, second_phase, quiet, goes_to_phase2, goes_to_phase2_if, to_phase2, changed, adopts, adopts_if, joins_estimates, relays, decides_at, enters_next_at, on_e, on_f}
+use Rattle.rules.specs.Events.{takes, enters, jumps, jumps_if, second_phase, quiet, goes_to_phase2, goes_to_phase2_if, to_phase2, changed, adopts, adopts_if, joins_estimates}
 
 -- the stages, by the cases of their tests
 jumps_if-round : (b : Bool) (r q v : ℕ) (p : Process) → p.round ≤ last_round → r ≤ last_round → (jumps_if b r q v p).round ≤ last_round
@@ -50,17 +50,7 @@ f-round n j r q v p hp hr = rw (joins-round, adopts-round, to_phase2-round) (jum
 -- ---- the events as chains of their stages
 
 module _ (n i j r q v : ℕ) (p : Process) {jumped : Process} (hj : jumped ≡ jumps r q v p) where
-  pub stages-E : {relayed joined last : Next} → relayed ≡ relays n i q v jumped → joined ≡ changed (joins_estimates j) relayed → last ≡ decides_at n joined
-      → last ≡ on_e n i j r q v p
-  unfolding on_e
-  stages-E a b c = c ∙ ap (decides_at n) (b ∙ ap (changed (joins_estimates j)) (a ∙ ap (relays n i q v) hj))
-
   -- of an F, up to the join, and whole
   pub joined-F : {moved adopted joined : Next} → moved ≡ to_phase2 jumped → adopted ≡ adopts n q v moved → joined ≡ changed (joins_estimates j) adopted
       → joined ≡ changed (joins_estimates j) (adopts n q v (to_phase2 (jumps r q v p)))
   joined-F a b c = c ∙ ap (changed (joins_estimates j)) (b ∙ ap (adopts n q v) (a ∙ ap to_phase2 hj))
-
-  pub stages-F : {moved adopted joined last : Next} → moved ≡ to_phase2 jumped → adopted ≡ adopts n q v moved → joined ≡ changed (joins_estimates j) adopted
-      → last ≡ enters_next_at n i joined → last ≡ on_f n i j r q v p
-  unfolding on_f
-  stages-F a b c d = d ∙ ap (enters_next_at n i) (joined-F a b c)

@@ -2,10 +2,10 @@
 use mathlib.Core.Path.{◌≡◌, refl, ap, ◌∙◌}
 use mathlib.Core.Bool.{Bool, true, false, ◌&&◌, not}
 use Rattle.std.specs.Prelude.{Option, Some, None}
-use Prim.Native.Nat.{ℕ, zero, suc, ◌≤◌, ◌<◌}
+use Prim.Native.Nat.{ℕ, zero, suc, ◌≤◌}
 use native.Mathlib.Omega.{arith}
 use lib.Dec.{eqb, leb, ltb}
-use borrow.Author.Tests.{leb-true, le-leb, lt-leb, ltb-false, not-false}
+use borrow.Author.Tests.{leb-true, le-leb, ltb-false, not-false}
 use Rattle.rules.specs.declared.step.Step.{Step}
 use Rattle.rules.specs.Limits.{last_round, deepest_message, among, some_if, if_among}
 use Rattle.rules.specs.Store.{proposer_of}
@@ -81,28 +81,6 @@ pub among_in : (n m : ℕ) → 1 ≤ m → m ≤ n → among n m ≡ true
 unfolding among
 among_in n m a b = and_both (leb 1 m) (leb m n) (le-leb 1 m a) (le-leb m n b)
 
--- 0 and what is above n are none
-pub among-zero : (n : ℕ) {m : ℕ} → m ≡ 0 → among n m ≡ false
-unfolding among
-among-zero n e = rw e
-
-pub among-above : (n m : ℕ) → n < m → among n m ≡ false
-unfolding among
-among-above n m lt = and_false (leb 1 m) (lt-leb m n lt)
-  where
-    and_false : (a : Bool) {b : Bool} → b ≡ false → (a && b) ≡ false
-    and_false true e = e
-    and_false false e = refl
-
--- so the number itself, or none
-pub none-among : (n m : ℕ) → among n m ≡ false → None ≡ if_among n m
-unfolding some_if
-none-among n m e = rw e
-
-pub is-among : (n m : ℕ) → 1 ≤ m → m ≤ n → Some m ≡ if_among n m
-unfolding some_if
-is-among n m a b = rw (among_in n m a b)
-
 -- and what either says
 pub some-false : (n m : ℕ) → if_among n m ≡ None → among n m ≡ false
 unfolding some_if
@@ -146,13 +124,3 @@ pub owned-zero : (n i : ℕ) → row (not (among n i && true)) 3 0 ≡ 0 → (1 
 owned-zero n i e =
     let numbers = row_zero (not (among n i && true)) 2 0 e in
     among-true n i (and_left (among n i) true (not-false (among n i && true) numbers.0))
-
--- a delivered entry names one of 1..n
-pub held-zero : (n : ℕ) (up : Bool) (e k : ℕ) (c : Bool) → held_rows n up e k true c ≡ 0 → (1 ≤ proposer_of e) × (proposer_of e ≤ n)
-unfolding held_rows
-held-zero n up e k c z =
-    let w = row (ltb deepest_message k) 14 0 in
-    let a = row_zero (not c && not up) 4 (row (true && eqb e 0) 6 (row (true && not (among n (proposer_of e))) 2 w)) z in
-    let b = row_zero (eqb e 0) 5 (row (not (among n (proposer_of e))) 2 w) a.1 in
-    let d = row_zero (not (among n (proposer_of e))) 1 w b.1 in
-    among-true n (proposer_of e) (not-false (among n (proposer_of e)) d.0)

@@ -7,7 +7,6 @@ use Prim.Native.Nat.{ℕ, zero, suc, ◌+◌, ◌-◌, ◌^◌, ◌≤◌, ◌<�
 use native.Mathlib.Omega.{arith}
 use lib.ListN.{length, get_or, set, drop, replicate, length-set, length-append, length-replicate, length-drop, get_or-replicate, get_or-append}
 use lib.Seq.{get_or-set_same, get_or-set_other, get_or-append-add, get_or-drop}
-use borrow.Author.Fill.{fill_none, fill_more}
 use Rattle.rules.specs.declared.process.Message.{Message}
 use Rattle.rules.specs.declared.process.Message.TheVariants.{E, S, F, Decision}
 use Rattle.rules.specs.Limits.{greatest_size, last_round, store_length}
@@ -105,15 +104,6 @@ sent-past (x ∷ l) (suc at) e zero a = refl
 sent-past (x ∷ l) (suc at) e (suc n) a = ap (λ (m : ℕ). m + sent_bit x) (sent-past l at e n (omega arith))
 
 -- ---- a store that is cleared
-
--- cleared entry by entry
-pub cleared-none : (l : List ℕ) → l ≡ cleared 0 l
-unfolding cleared
-cleared-none l = fill_none l 0
-
-pub cleared_more : (n : ℕ) (l : List ℕ) → n < length l → set (cleared n l) n 0 ≡ cleared (n + 1) l
-unfolding cleared
-cleared_more n l h = fill_more n 0 l h
 
 -- its length, and its entries
 pub cleared-length : (n : ℕ) (l : List ℕ) → n ≤ length l → length (cleared n l) ≡ length l
