@@ -1,10 +1,11 @@
 // The reader: the lent bytes of the file and a place in them. Each function over it is thin: the work is on a slice and a number, in `line`.
 ghost use Rattle.std.specs.Prelude.{◌≡◌};
 ghost use Rattle.schedule.specs.Line.{line_at};
-ghost use Rattle.schedule.specs.Private.{Ahead, place_after, KnownLine, line_read};
+ghost use Rattle.schedule.specs.Private.{Ahead, place_after, KnownLine};
 
 use crate::line;
-use crate::line::StepRead;
+use rules::step::Step;
+use text::number::Broken;
 
 #[derive(Clone, Copy)]
 pub(crate) struct Reader<'a> {
@@ -19,8 +20,8 @@ pub(crate) fn reader_at<'a>(file: &'a [u8], at: usize) -> Reader<'a>
     Reader { file, at }
 }
 
-// The place after the step line where the reader stands; 0 where the line breaks the form.
-pub(crate) fn end_of_line<'a>(r: Reader<'a>) -> usize
+// The place after the step line where the reader stands, or the place where the line breaks the form.
+pub(crate) fn end_of_line<'a>(r: Reader<'a>) -> Result<usize, Broken>
     requires { Ahead r.file.now r.at }
     ensures { result ≡ place_after (line_at r.entry.file.now r.entry.at) }
 {
@@ -28,24 +29,24 @@ pub(crate) fn end_of_line<'a>(r: Reader<'a>) -> usize
 }
 
 // The step where the reader stands, and the place after its line. The line is known to keep the form.
-pub(crate) fn step<'a>(r: Reader<'a>) -> StepRead
+pub(crate) fn step<'a>(r: Reader<'a>) -> (Step, usize)
     requires { KnownLine r.file.now r.at }
-    ensures { line_at r.entry.file.now r.entry.at ≡ line_read result }
+    ensures { line_at r.entry.file.now r.entry.at ≡ Ok result }
 {
     line::known_line(r.file, r.at)
 }
 
 // The two through a reader, with plain parameters, for the loops above.
-pub(crate) fn line_end_at(s: &[u8], at: usize) -> usize
+pub(crate) fn line_end_at(s: &[u8], at: usize) -> Result<usize, Broken>
     requires { Ahead s.now at }
     ensures { result ≡ place_after (line_at s.now at) }
 {
     end_of_line(reader_at(s, at))
 }
 
-pub(crate) fn step_at(s: &[u8], at: usize) -> StepRead
+pub(crate) fn step_at(s: &[u8], at: usize) -> (Step, usize)
     requires { KnownLine s.now at }
-    ensures { line_at s.now at ≡ line_read result }
+    ensures { line_at s.now at ≡ Ok result }
 {
     step(reader_at(s, at))
 }

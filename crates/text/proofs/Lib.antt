@@ -1,3 +1,4 @@
+pub mod ReadLaws
 pub mod NumberLaws
 pub mod StandsLaws
 pub mod SpellLaws

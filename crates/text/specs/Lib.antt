@@ -1,5 +1,7 @@
 -- The meaning of text in lent bytes: what a reader must believe.
 
+-- what is read at a place
+pub mod Read
 -- decimals, read and spelled
 pub mod Number
 -- a text put at a place

@@ -10,10 +10,11 @@ use native.Mathlib.Decide.{dec_lt}
 use lib.Dec.{leb, eqb}
 use lib.ListN.{length, get_or, drop}
 use lib.Seq.{drop-cons}
+use Rattle.text.specs.Read.{bad}
+use Rattle.text.proofs.ReadLaws.{got, same_place}
 use Rattle.text.specs.Number.{is_digit, pick, most, scan, number_at}
 use Rattle.schedule.specs.Line.{numbers_after, spaced_at, next_number}
 use Rattle.schedule.specs.Private.{Ahead, NoLf, LastLf}
-use Rattle.text.specs.declared.number.Number.TheVariants.{Bad, Value}
 use Rattle.text.proofs.NumberLaws.{digit-range}
 use Rattle.schedule.proofs.Reading.Cases.{past-none, spaced-is, space-here}
 
@@ -75,17 +76,17 @@ free_all f h = record { high = omega arith; lf = λ z. absurd (omega arith); non
 -- ---- past a number
 
 module _ (s : List ℕ) (w n : ℕ) where
-  value-ahead : (v i : ℕ) → Ahead s i → Value v i ≡ Value w n → Ahead s n
-  value-ahead v i h e = let p : i ≡ n = cc in subst (λ (k : ℕ). Ahead s k) p h
+  value-ahead : (v i : ℕ) → Ahead s i → got v i ≡ got w n → Ahead s n
+  value-ahead v i h e = let p : i ≡ n = same_place e in subst (λ (k : ℕ). Ahead s k) p h
 
-  scan-pick : (v i b : ℕ) (t : List ℕ) → Ahead s i → (is_digit b ≡ true → scan (v * 10 + (b - 48)) (i + 1) t ≡ Value w n → Ahead s n)
+  scan-pick : (v i b : ℕ) (t : List ℕ) → Ahead s i → (is_digit b ≡ true → scan (v * 10 + (b - 48)) (i + 1) t ≡ got w n → Ahead s n)
       → (x : Bool) → is_digit b ≡ x → (y : Bool)
-      → pick x (pick y (scan (v * 10 + (b - 48)) (i + 1) t) (Bad i)) (Value v i) ≡ Value w n → Ahead s n
+      → pick x (pick y (scan (v * 10 + (b - 48)) (i + 1) t) (bad i)) (got v i) ≡ got w n → Ahead s n
   scan-pick v i b t h ih false d y e = value-ahead v i h e
   scan-pick v i b t h ih true d false e = let z : ◌≡◌ {A = ℕ} 0 1 = cc in absurd (omega arith)
   scan-pick v i b t h ih true d true e = ih d e
 
-  scan-over : (v i : ℕ) (t : List ℕ) → drop i s ≡ t → Ahead s i → scan v i t ≡ Value w n → Ahead s n
+  scan-over : (v i : ℕ) (t : List ℕ) → drop i s ≡ t → Ahead s i → scan v i t ≡ got w n → Ahead s n
   unfolding scan
   scan-over v i [] p h e = value-ahead v i h e
   scan-over v i (b ∷ t) p h e =
@@ -96,27 +97,27 @@ module _ (s : List ℕ) (w n : ℕ) where
       (λ d o. scan-over (v * 10 + (b - 48)) (i + 1) t (ap (λ (k : ℕ). drop k s) (add-one i) ∙ r) (ahead-digit h (ap is_digit g ∙ d)) o)
       (is_digit b) refl (leb (v * 10 + (b - 48)) most) e
 
-  pub scan-ahead : (v i : ℕ) → Ahead s i → scan v i (drop i s) ≡ Value w n → Ahead s n
+  pub scan-ahead : (v i : ℕ) → Ahead s i → scan v i (drop i s) ≡ got w n → Ahead s n
   scan-ahead v i h e = scan-over v i (drop i s) refl h e
 
   number-pick : (at : ℕ) → Ahead s at → (x : Bool) → is_digit (get_or s at 0) ≡ x → (y : Bool) → (z : Bool)
-      → pick x (pick y (pick z (Bad (at + 1)) (Value 0 (at + 1))) (scan 0 at (drop at s))) (Bad at) ≡ Value w n → Ahead s n
+      → pick x (pick y (pick z (bad (at + 1)) (got 0 (at + 1))) (scan 0 at (drop at s))) (bad at) ≡ got w n → Ahead s n
   number-pick at h false d y z e = let u : ◌≡◌ {A = ℕ} 0 1 = cc in absurd (omega arith)
   number-pick at h true d true true e = let u : ◌≡◌ {A = ℕ} 0 1 = cc in absurd (omega arith)
   number-pick at h true d true false e = value-ahead 0 (at + 1) (ahead-digit h d) e
   number-pick at h true d false z e = scan-ahead 0 at h e
 
 module _ {s : List ℕ} {at v n : ℕ} (h : Ahead s at) where
-  pub number-ahead : number_at s at ≡ Value v n → Ahead s n
+  pub number-ahead : number_at s at ≡ got v n → Ahead s n
   unfolding number_at
   number-ahead e = number-pick s v n at h (is_digit (get_or s at 0)) refl (eqb (get_or s at 0) 48) (is_digit (get_or s (at + 1) 0)) e
 
-pub spaced-ahead : {s : List ℕ} {at v n : ℕ} → Ahead s at → spaced_at s at ≡ Value v n → Ahead s n
+pub spaced-ahead : {s : List ℕ} {at v n : ℕ} → Ahead s at → spaced_at s at ≡ got v n → Ahead s n
 spaced-ahead {s} {at} h e =
     let b = space-here s at e in
     number-ahead (ahead_past h b (λ z. omega arith)) (sym (spaced-is s at b) ∙ e)
 
-pub next-ahead : {s : List ℕ} {at v n : ℕ} → Ahead s at → (wanted : Bool) → next_number s at wanted ≡ Value v n → Ahead s n
+pub next-ahead : {s : List ℕ} {at v n : ℕ} → Ahead s at → (wanted : Bool) → next_number s at wanted ≡ got v n → Ahead s n
 unfolding next_number
 next-ahead h true e = spaced-ahead h e
 next-ahead {s} {at} {v} {n} h false e = value-ahead s v n 0 at h e

@@ -5,11 +5,13 @@ use mathlib.Core.List.{List, [], ◌∷◌, ◌++◌}
 use Prim.Native.Nat.{ℕ, ◌+◌, ◌-◌, ◌≤◌, ◌<◌}
 use native.Mathlib.Omega.{arith}
 use lib.ListN.{length, get_or}
+use Rattle.std.specs.Prelude.{Ok, Err}
+use Rattle.text.specs.Read.{Read, bad}
+use Rattle.text.proofs.ReadLaws.{got}
 use Rattle.rules.specs.declared.step.Step.{Step}
 use Rattle.rules.specs.declared.step.Step.TheVariants.{DeliverE, DeliverS, DeliverF, DeliverDecision, Suspect, Pause, Crash, Recover}
 use Rattle.text.specs.Number.{spelled}
 use Rattle.text.specs.Stands.{Stands}
-use Rattle.schedule.specs.Lines.{Item, broken, item}
 use Rattle.schedule.specs.Line.{spaced, ending, line_of, line_at}
 use Rattle.schedule.specs.Private.{NoLf}
 use Rattle.text.proofs.StandsLaws.{stands-rest, stands-within, byte-stands}
@@ -63,17 +65,17 @@ module _ (s : List ℕ) where
   lf_line (Recover i) = lf-one 82 i false
 
   -- what is read ends in LF
-  pub line-lf : (at m : ℕ) (st : Step) → line_at s at ≡ item st m → EndsInLf s at m
+  pub line-lf : (at m : ℕ) (st : Step) → line_at s at ≡ got st m → EndsInLf s at m
   line-lf at m st e = lf_line st at m (line_read s at m st e).1
 
 -- where no LF stands from a place on, the line there breaks the form
 pub record NoLine (s : List ℕ) (at : ℕ) : Type 0 where
   pub stop : ℕ
-  pub is : line_at s at ≡ broken stop
+  pub is : line_at s at ≡ bad stop
 
 pub no_line : (s : List ℕ) (at : ℕ) → NoLf s at → NoLine s at
 no_line s at none = go (line_at s at) refl
   where
-    go : (r : Item Step) → line_at s at ≡ r → NoLine s at
-    go (broken p) e = record { stop = p; is = e }
-    go (item st m) e = let h = line-lf s at m st e in absurd (none (m - 1) (omega (arith, h.low)) h.lf)
+    go : (r : Read Step) → line_at s at ≡ r → NoLine s at
+    go (Err p) e = record { stop = p.place; is = e }
+    go (Ok (st, m)) e = let h = line-lf s at m st e in absurd (none (m - 1) (omega (arith, h.low)) h.lf)

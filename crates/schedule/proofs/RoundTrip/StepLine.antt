@@ -7,17 +7,15 @@ use native.Mathlib.Omega.{arith}
 use lib.Dec.{eqb, ltb}
 use lib.ListN.{length, get_or}
 use borrow.Author.Tests.{eqb-true, lt-ltb}
+use Rattle.text.specs.Read.{Read}
+use Rattle.text.proofs.ReadLaws.{got}
 use Rattle.rules.specs.declared.step.Step.{Step}
 use Rattle.rules.specs.declared.step.Step.TheVariants.{DeliverE, DeliverS, DeliverF, DeliverDecision, Suspect, Pause, Crash, Recover}
 use Rattle.text.specs.Number.{pick, is_digit, most, spelled}
 use Rattle.text.specs.Stands.{Stands}
-use Rattle.schedule.specs.Lines.{item}
 use Rattle.rules.specs.Kinds.{numbers_of, round_of}
 use Rattle.schedule.specs.Lines.{Every}
 use Rattle.schedule.specs.Line.{ending, spaced, line_of, Holdable, numbers_after, may_cut, step_of, spaced_at, next_number, end_at, ended_at, after_letter, line_at}
-use Rattle.schedule.specs.declared.line.End.TheVariants.{Ends}
-use Rattle.text.specs.declared.number.Number.{Number}
-use Rattle.text.specs.declared.number.Number.TheVariants.{Value}
 use Rattle.schedule.proofs.Reading.Cases.{spaced-is, next-wanted, next-none, end-plain, end-cut}
 use Rattle.text.proofs.StandsLaws.{stands-first, stands-rest, byte-stands, stands-tail}
 use Rattle.text.proofs.SpellLaws.{number_spelled}
@@ -115,8 +113,8 @@ not_digit : (b : ℕ) → b < 48 → is_digit b ≡ false
 unfolding is_digit
 not_digit b h = rw (lt-ltb b 48 h)
 
-after-got : (b : ℕ) (s : List ℕ) (at n k l e i j r : ℕ) (x : Bool) → next_number s at true ≡ Value i n → next_number s n (ltb 1 (numbers_after b)) ≡ Value j k
-    → next_number s k (ltb 2 (numbers_after b)) ≡ Value r l → end_at s l (may_cut b) ≡ Ends x e → after_letter b s at ≡ item (step_of b i j r x) e
+after-got : (b : ℕ) (s : List ℕ) (at n k l e i j r : ℕ) (x : Bool) → next_number s at true ≡ got i n → next_number s n (ltb 1 (numbers_after b)) ≡ got j k
+    → next_number s k (ltb 2 (numbers_after b)) ≡ got r l → end_at s l (may_cut b) ≡ got x e → after_letter b s at ≡ got (step_of b i j r x) e
 unfolding after_letter ended_at
 after-got b s at n k l e i j r x p q t u = rw (p, q, t, u)
 
@@ -141,9 +139,9 @@ module _ (s : List ℕ) where
   quiet-wanted m v l false q = q
 
   -- after a space and a number: where the rest of the line stands
-  pub record Next (at m v : ℕ) (l : List ℕ) (found : Number) : Type 0 where
+  pub record Next (at m v : ℕ) (l : List ℕ) (found : Read ℕ) : Type 0 where
     pub place : ℕ
-    pub read : found ≡ Value v place
+    pub read : found ≡ got v place
     pub rest : Stands s place m l
 
   pub spaced-spelled : (at m v : ℕ) (l : List ℕ) → v ≤ most → Quiet m l → Stands s at m (spaced v l) → Next at m v l (spaced_at s at)
@@ -162,18 +160,18 @@ module _ (s : List ℕ) where
   next-spelled at m v l true h stop p =
       let k = spaced-spelled at m v l h stop p in
       record { place = k.place; read = next-wanted s at refl ∙ k.read; rest = k.rest }
-  next-spelled at m v l false h stop p = record { place = at; read = next-none s at refl ∙ ap (λ (u : ℕ). Value u at) (sym h); rest = p }
+  next-spelled at m v l false h stop p = record { place = at; read = next-none s at refl ∙ ap (λ (u : ℕ). got u at) (sym h); rest = p }
 
-  end-spelled : (at m : ℕ) (x may : Bool) → CutOnly may x → Stands s at m (ending x) → end_at s at may ≡ Ends x m
-  end-spelled at m false may c p = end-plain s at may (byte-stands s at m 10 [] p) ∙ ap (Ends false) (sym p.end)
+  end-spelled : (at m : ℕ) (x may : Bool) → CutOnly may x → Stands s at m (ending x) → end_at s at may ≡ got x m
+  end-spelled at m false may c p = end-plain s at may (byte-stands s at m 10 [] p) ∙ ap (got false) (sym p.end)
   end-spelled at m true false c p = let u : ◌≡◌ {A = ℕ} 0 1 = ap (λ (x : Bool). pick x 0 1) c in absurd (omega arith)
   end-spelled at m true true c p =
       let q = stands-tail s at m 32 (88 ∷ 10 ∷ []) p in
       let r = stands-tail s (at + 1) m 88 (10 ∷ []) q in
       end-cut s at refl (byte-stands s at m 32 (88 ∷ 10 ∷ []) p) (byte-stands s (at + 1) m 88 (10 ∷ []) q)
-      (ap (λ (k : ℕ). get_or s k 0) (omega arith) ∙ byte-stands s (at + 1 + 1) m 10 [] r) ∙ ap (Ends true) (sym p.end)
+      (ap (λ (k : ℕ). get_or s k 0) (omega arith) ∙ byte-stands s (at + 1 + 1) m 10 [] r) ∙ ap (got true) (sym p.end)
 
-  after-spelled : (b at m i j r : ℕ) (x : Bool) → Body b i j r x → Stands s at m (body_of b i j r x) → after_letter b s at ≡ item (step_of b i j r x) m
+  after-spelled : (b at m i j r : ℕ) (x : Bool) → Body b i j r x → Stands s at m (body_of b i j r x) → after_letter b s at ≡ got (step_of b i j r x) m
   after-spelled b at m i j r x h p =
       let second : Bool = ltb 1 (numbers_after b) in
       let third : Bool = ltb 2 (numbers_after b) in
@@ -183,12 +181,12 @@ module _ (s : List ℕ) where
       let w = next-spelled v.place m r (ending x) third h.third (quiet-ending m x) v.rest in
       after-got b s at u.place v.place w.place m i j r x u.read v.read w.read (end-spelled w.place m x (may_cut b) h.cut w.rest)
 
-  lettered : (b at m i j r : ℕ) (x : Bool) → eqb (numbers_after b) 0 ≡ false → Body b i j r x → Stands s at m (b ∷ body_of b i j r x) → line_at s at ≡ item (step_of b i j r x) m
+  lettered : (b at m i j r : ℕ) (x : Bool) → eqb (numbers_after b) 0 ≡ false → Body b i j r x → Stands s at m (b ∷ body_of b i j r x) → line_at s at ≡ got (step_of b i j r x) m
   lettered b at m i j r x n h p =
       line-letter s at b (byte-stands s at m b (body_of b i j r x) p) n ∙ after-spelled b (at + 1) m i j r x h (stands-tail s at m b (body_of b i j r x) p)
 
   -- the line of a step is read as that step, up to its end
-  pub line-spelled : (at m : ℕ) (st : Step) → Holdable st → Stands s at m (line_of st) → line_at s at ≡ item st m
+  pub line-spelled : (at m : ℕ) (st : Step) → Holdable st → Stands s at m (line_of st) → line_at s at ≡ got st m
   unfolding numbers_after may_cut step_of Every numbers_of round_of
   line-spelled at m (DeliverE i j r x) h p = lettered 69 at m i j r x refl (record { first = h.0.0; second = h.0.1.0; third = h.1; cut = tt }) p
   line-spelled at m (DeliverS i j r x) h p = lettered 83 at m i j r x refl (record { first = h.0.0; second = h.0.1.0; third = h.1; cut = tt }) p

@@ -6,8 +6,8 @@ use Rattle.schedule.proofs.run.run_steps.Goals as goal
 pub loop-i-init : goal.loop-i-init
 loop-i-init c = counts_same (sym c.none-counts.ensures) (going-none _ _ _ _ _ _ c.requires)
 
-pub step_at-taken-requires : goal.step_at-taken-requires
-step_at-taken-requires c = going-known _ _ _ _ _ _ _ _ c.loop-i.invariant c.loop-i-test.true
+pub step_at-step-requires : goal.step_at-step-requires
+step_at-step-requires c = going-known _ _ _ _ _ _ _ _ c.loop-i.invariant c.loop-i-test.true
 
 pub step_sound-answer-requires : goal.step_sound-answer-requires
 step_sound-answer-requires c = c.loop-i.invariant.ready
@@ -22,7 +22,7 @@ pub loop-i-smaller : goal.loop-i-smaller
 loop-i-smaller c = omega arith
 
 pub loop-i-preserved : goal.loop-i-preserved
-loop-i-preserved c = counts_same (sym c.counted-counts.ensures) (going_on _ _ _ _ _ _ _ _ c.loop-i.invariant c.loop-i-test.true c.step_at-taken.result c.step_at-taken.ensures _ _ c.step_sound-answer.ensures)
+loop-i-preserved c = counts_same (sym c.counted-counts.ensures) (going_on _ _ _ _ _ _ _ _ c.loop-i.invariant c.loop-i-test.true _ _ c.step_at-step.ensures _ _ c.step_sound-answer.ensures)
 
 pub returns : goal.returns
 returns c = going_done _ _ _ _ _ _ _ _ _ _ _ _ c.loop-i.invariant c.loop-i-test.false

@@ -12,10 +12,10 @@ offset_bounds-values-i c = omega (arith, c.loop-i.invariant.few)
 pub bounds-values-i : goal.bounds-values-i
 bounds-values-i c = omega (arith, c.loop-i.invariant.few)
 
-pub returns-in-Bad : goal.returns-in-Bad
-returns-in-Bad c =
+pub returns-in-Err : goal.returns-in-Err
+returns-in-Err c =
     filling-broken c.loop-i.invariant c.loop-i-test.true
-    c.value_at.ensures c.in-Bad.is
+    c.value_at.ensures c.in-Err.is
 
 pub overflow_add-i : goal.overflow_add-i
 overflow_add-i c = omega arith
@@ -26,7 +26,7 @@ loop-i-smaller c = omega arith
 pub loop-i-preserved : goal.loop-i-preserved
 loop-i-preserved c =
     filling-on c.loop-i.invariant c.loop-i-test.true
-    c.value_at.ensures c.in-Value.is
+    c.value_at.ensures c.in-Ok.is
 
 pub returns : goal.returns
 returns c = filling-done c.loop-i.invariant c.loop-i-test.false
