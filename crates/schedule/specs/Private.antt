@@ -27,32 +27,16 @@ use Rattle.schedule.specs.declared.run.Ran.{Ran}
 
 -- ---- places
 
--- an LF stands at a place or ahead of it
-pub record Ahead (s : List ℕ) (at : ℕ) : Type 0 where
-  pub end : ℕ
-  pub low : at < end
-  pub high : end ≤ length s
-  pub lf : get_or s (end - 1) 0 ≡ 10
-
--- none does
-abbrev pub NoLf : List ℕ → ℕ → Type 0
-NoLf s at = (j : ℕ) → at ≤ j → get_or s j 0 ≢ 10
-
 -- end is the place after the last LF, 0 where there is none
 pub record LastLf (s : List ℕ) (end : ℕ) : Type 0 where
   pub high : end ≤ length s
   pub lf : 0 < end → get_or s (end - 1) 0 ≡ 10
-  pub none : NoLf s end
+  pub none : (j : ℕ) → end ≤ j → get_or s j 0 ≢ 10
 
--- the place after what is read
-unfoldable pub place_after : {A : Type 0} → Read A → Result ℕ Broken
-place_after (Err e) = Err e
-place_after (Ok (x, m)) = Ok m
-
--- where reading a line stops: where it breaks the form, or after it
-unfoldable pub stop_of : Read Step → ℕ
-stop_of (Err e) = e.place
-stop_of (Ok (x, m)) = m
+-- what a reader read, and where it stands behind it
+unfoldable pub read_to : Result Step Broken → ℕ → Read Step
+read_to (Err broken) m = Err broken
+read_to (Ok st) m = Ok (st, m)
 
 -- the place after some lines
 unfoldable pub rows_end : {A : Type 0} → Rows A → Result ℕ BrokenLine

@@ -8,6 +8,7 @@ ghost use Rattle.schedule.specs.Schedule.{fault_at};
 use crate::fault::{Fault, Flaw};
 use crate::line::spaced_at;
 use crate::number::closed;
+use text::look::Tested;
 use text::number::Broken;
 
 // The place after a word that stands at a place, or the place of the first byte that is not the word's.
@@ -33,7 +34,7 @@ pub(crate) fn word_at(s: &[u8], at: usize, word: &[u8]) -> Result<usize, Broken>
 pub(crate) fn alone_at(s: &[u8], at: usize) -> Result<(u32, usize), Broken>
     ensures { result ≡ alone_at s.now at }
 {
-    let number = spaced_at(s, at);
+    let number = spaced_at::<Tested>(s, at);
     closed(s, number)
 }
 

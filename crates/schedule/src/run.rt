@@ -8,7 +8,7 @@ ghost use Rattle.schedule.specs.Private.{RunReady, RanTo, BothReady, BothRan, Fo
 use crate::counts::Counts;
 use crate::fault::Fault;
 use crate::file::{Places, form_of};
-use crate::reader;
+use crate::reader::Reader;
 use rules::group::{Bytes, Flags, Group, Halves, Words};
 use rules::store::Store;
 use rules::take::step_sound;
@@ -38,14 +38,11 @@ pub(crate) fn run_steps(
     ensures { RanTo s.now at count (group_of n words.old halves.old bytes.old flags.old) store.old depths.old (group_of n words.new halves.new bytes.new flags.new) store.new depths.new result }
 {
     let mut counts = Counts::none();
-    let mut i: u32 = 0;
-    let mut place = at;
-    while i < count {
-        let (step, next) = reader::step_at(s, place);
+    let mut reader = Reader { file: s, at };
+    for _ in 0..count {
+        let step = reader.step();
         let answer = step_sound(n, words, halves, bytes, flags, store, depths, step);
         counts = counts.counted(answer);
-        place = next;
-        i += 1;
     }
     counts
 }

@@ -54,6 +54,13 @@ pub record Digit (s : List ℕ) (at : ℕ) : Type 0 where
 pub digit-here : (s : List ℕ) (at : ℕ) → is_digit (get_or s at 0) ≡ true → Digit s at
 digit-here s at d = let r = digit-range (get_or s at 0) d in record { is = d; within = inside s at (omega (arith, r.0)); low = r.0; high = r.1 }
 
+-- the same of a byte that was looked at and tested
+pub digit_seen : (s : List ℕ) (at : ℕ) {b : ℕ} {d : Bool} → b ≡ get_or s at 0 → d ≡ is_digit b → d ≡ true → Digit s at
+digit_seen s at e f g = digit-here s at (sym (f ∙ ap is_digit e) ∙ g)
+
+pub none_seen : (s : List ℕ) (at : ℕ) {b : ℕ} {d : Bool} → b ≡ get_or s at 0 → d ≡ is_digit b → d ≡ false → is_digit (get_or s at 0) ≡ false
+none_seen s at e f g = sym (f ∙ ap is_digit e) ∙ g
+
 pub front : (s : List ℕ) (at : ℕ) → get_or (drop at s) 0 0 ≡ get_or s at 0
 front s at = get_or-drop at s 0 0 ∙ ap (λ (k : ℕ). get_or s k 0) (omega arith)
 

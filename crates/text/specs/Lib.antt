@@ -8,3 +8,5 @@ pub mod Number
 pub mod Put
 -- what the round trip speaks of
 pub mod Stands
+-- where a byte may be looked at
+pub mod Look

@@ -10,15 +10,15 @@ use lib.Dec.{ltb, eqb}
 use lib.ListN.{length, get_or, drop, drop_of_length-le, get_or-eq_default}
 use lib.Seq.{drop-cons}
 use borrow.Author.Tests.{lt-ltb, le-ltb, eq-eqb, ne_eqb, eqb-true}
-use Rattle.std.specs.Prelude.{Ok, Err}
-use Rattle.text.specs.Read.{Read, bad, on_read}
+use Rattle.std.specs.Prelude.{Option, Some, None, Ok, Err}
+use Rattle.schedule.specs.declared.letter.Letter.{Letter}
+use Rattle.text.specs.Read.{Read, bad}
 use Rattle.text.proofs.ReadLaws.{got, same-thing, same_place, bad-not}
 use Rattle.rules.specs.declared.step.Step.{Step}
 use Rattle.text.specs.declared.number.Broken.{Broken}
 use Rattle.text.specs.Number.{pick, number_at}
-use Rattle.schedule.specs.Line.{closed, numbers_after, may_cut, step_of, spaced_at, next_number, end_at, ended_at, after_letter, line_at}
+use Rattle.schedule.specs.Line.{closed, letter_of, numbers_after, may_cut, step_of, spaced_at, next_number, end_at, ended_at, after_letter, line_at}
 use Rattle.schedule.specs.Header.{word_at}
-use Rattle.schedule.specs.Private.{place_after, stop_of}
 
 -- ---- past the end of the file no LF stands
 
@@ -108,16 +108,16 @@ module _ (s : List ℕ) (at : ℕ) where
   unfolding end_at
   end-cut f e x l = rw (f, e, x, l)
 
--- ---- a step line, of which b is the letter and count says how many numbers follow
-module _ (s : List ℕ) (at : ℕ) {b count : ℕ} (letter : get_or s at 0 ≡ b) (numbers : count ≡ numbers_after b) where
-  pub line_other : count ≡ 0 → line_at s at ≡ bad at
+-- ---- a step line, of which o is the letter, if there is one, and count says how many numbers follow
+module _ (s : List ℕ) (at : ℕ) {o : Option Letter} (told : o ≡ letter_of (get_or s at 0)) where
+  pub line_other : o ≡ None → line_at s at ≡ bad at
   unfolding line_at
-  line_other z = rw (letter, ← numbers, z)
+  line_other z = rw (← told, z)
 
-  module _ (some : count ≢ 0) where
+  module _ {b : Letter} (letter : o ≡ Some b) {count : ℕ} (numbers : count ≡ numbers_after b) where
     line-letter : line_at s at ≡ after_letter b s (at + 1)
     unfolding line_at
-    line-letter = rw (letter, ← numbers, ne_eqb count 0 some)
+    line-letter = rw (← told, letter)
 
     pub line-no-first : {e : Broken} → spaced_at s (at + 1) ≡ Err e → line_at s at ≡ Err e
     unfolding after_letter
@@ -139,25 +139,9 @@ module _ (s : List ℕ) (at : ℕ) {b count : ℕ} (letter : get_or s at 0 ≡ b
           unfolding after_letter
           line-numbers = line-letter ∙ rw (next-wanted s (at + 1) refl, first, ← numbers, second, third)
 
-          pub line-place : {may : Bool} → may ≡ may_cut b → place_after (line_at s at) ≡ place_after (end_at s l may)
-          unfolding place_after ended_at
-          line-place q = ap place_after line-numbers ∙ go (end_at s l (may_cut b)) ∙ ap (λ (x : Bool). place_after (end_at s l x)) (sym q)
-            where
-              go : (e : Read Bool) → place_after (on_read e bad (λ x k. got (step_of b i j r x) k)) ≡ place_after e
-              go (Err e) = refl
-              go (Ok (x, k)) = refl
-
-pub after-broken : {A : Type 0} {r : Read A} {e : Broken} → r ≡ Err e → place_after r ≡ Err e
-unfolding place_after
-after-broken p = rw p
-
-pub after-read : {A : Type 0} {r : Read A} {x : A} {m : ℕ} → r ≡ Ok (x, m) → place_after r ≡ Ok m
-unfolding place_after
-after-read p = rw p
-
 -- ---- what an end says of its line
 
-module _ (s : List ℕ) (at b i j r : ℕ) {may : Bool} {e : Read Bool} (cut : may ≡ may_cut b) (end : e ≡ end_at s at may) where
+module _ (s : List ℕ) (at : ℕ) (b : Letter) (i j r : ℕ) {may : Bool} {e : Read Bool} (cut : may ≡ may_cut b) (end : e ≡ end_at s at may) where
   pub ended-none : {x : Broken} → e ≡ Err x → ended_at b i j r s at ≡ Err x
   unfolding ended_at
   ended-none q = rw (← cut, ← end, q)
@@ -165,15 +149,6 @@ module _ (s : List ℕ) (at b i j r : ℕ) {may : Bool} {e : Read Bool} (cut : m
   pub ended_is : {x : Bool} {m : ℕ} {st : Step} → e ≡ got x m → st ≡ step_of b i j r x → ended_at b i j r s at ≡ got st m
   unfolding ended_at
   ended_is {x} {m} {st} q f = rw (← cut, ← end, q) (ap (λ (k : Step). got k m) (sym f))
-
--- where reading a line stopped
-pub stop-good : {r x : Read Step} {st : Step} {m : ℕ} → r ≡ x → r ≡ got st m → m ≡ stop_of x
-unfolding stop_of
-stop-good e p = rw (← e, p)
-
-pub stop-bad : {r x : Read Step} {b : Broken} → r ≡ x → r ≡ Err b → b.place ≡ stop_of x
-unfolding stop_of
-stop-bad e p = rw (← e, p)
 
 -- ---- one byte of a word, as the loop goes
 module _ (s w : List ℕ) (place i : ℕ) where

@@ -2,19 +2,19 @@
 use mathlib.Core.Path.{◌≡◌, refl, sym, ap, ap₂, ◌∙◌, subst}
 use mathlib.Core.Bool.{Bool, true, false}
 use mathlib.Core.List.{List, [], ◌∷◌}
-use mathlib.Core.Logic.{◌≢◌}
 use Prim.Native.Nat.{ℕ, ◌+◌, ◌-◌, ◌*◌, ◌≤◌, ◌<◌}
 use native.Mathlib.Omega.{arith}
 use native.Mathlib.Decide.{dec_lt}
 use lib.Dec.{ltb, leb, eqb}
 use lib.ListN.{length, get_or, drop}
 use borrow.Author.Tests.{eqb-true, eqb-false}
-use Rattle.std.specs.Prelude.{Ok, Err}
+use Rattle.std.specs.Prelude.{Option, Some, None, Ok, Err}
+use Rattle.schedule.specs.declared.letter.Letter.{Letter}
 use Rattle.text.specs.Read.{Read, bad, on_read}
 use Rattle.text.proofs.ReadLaws.{got, same-thing, same_place, bad-not}
 use Rattle.rules.specs.declared.step.Step.{Step}
 use Rattle.text.specs.Number.{is_digit, pick, most, scan, number_at}
-use Rattle.schedule.specs.Line.{numbers_after, may_cut, step_of, spaced_at, next_number, end_at, ended_at, after_letter, line_at}
+use Rattle.schedule.specs.Line.{letter_of, on_letter, numbers_after, may_cut, step_of, spaced_at, next_number, end_at, ended_at, after_letter, line_at}
 use Rattle.schedule.specs.Private.{KnownNumber, KnownNext, KnownLine}
 use Rattle.schedule.proofs.Reading.Cases.{spaced-is, space-here, next-wanted}
 use Rattle.text.proofs.NumberLaws.{Digit, inside, digit-here, number-none, number-zero-more, number-zero, number-scan, at_more, at-over, at-stop}
@@ -157,6 +157,7 @@ module _ (s : List ℕ) (at : ℕ) where
 
 -- the parts of a line that keeps the form
 pub record Chain (s : List ℕ) (at : ℕ) (x : Step) (next : ℕ) : Type 0 where
+  pub letter : Letter
   pub first : ℕ
   pub second : ℕ
   pub third : ℕ
@@ -164,12 +165,12 @@ pub record Chain (s : List ℕ) (at : ℕ) (x : Step) (next : ℕ) : Type 0 wher
   pub m : ℕ
   pub l : ℕ
   pub cut : Bool
-  pub letter : numbers_after (get_or s at 0) ≢ 0
+  pub told : letter_of (get_or s at 0) ≡ Some letter
   pub one : next_number s (at + 1) true ≡ got first n
-  pub two : next_number s n (ltb 1 (numbers_after (get_or s at 0))) ≡ got second m
-  pub three : next_number s m (ltb 2 (numbers_after (get_or s at 0))) ≡ got third l
-  pub last : end_at s l (may_cut (get_or s at 0)) ≡ got cut next
-  pub step : x ≡ step_of (get_or s at 0) first second third cut
+  pub two : next_number s n (ltb 1 (numbers_after letter)) ≡ got second m
+  pub three : next_number s m (ltb 2 (numbers_after letter)) ≡ got third l
+  pub last : end_at s l (may_cut letter) ≡ got cut next
+  pub step : x ≡ step_of letter first second third cut
   pub here : at < length s
   pub one_inside : n < length s
   pub two-inside : m < length s
@@ -177,82 +178,84 @@ pub record Chain (s : List ℕ) (at : ℕ) (x : Step) (next : ℕ) : Type 0 wher
   pub end : Ended s l cut next
 
 -- no letter stands past the end of the file
-pub letter-here : (s : List ℕ) (at : ℕ) → numbers_after (get_or s at 0) ≢ 0 → at < length s
-unfolding numbers_after
-letter-here s at h = go (dec_lt 0 (get_or s at 0))
+past-end : letter_of 0 ≡ None
+unfolding letter_of
+past-end = refl
+
+pub letter-here : (s : List ℕ) (at : ℕ) {b : Letter} → letter_of (get_or s at 0) ≡ Some b → at < length s
+letter-here s at {b} h = go (dec_lt 0 (get_or s at 0))
   where
     go : Dec (0 < get_or s at 0) → at < length s
     go (yes p) = inside s at p
-    go (no n) = let e : get_or s at 0 ≡ 0 = omega arith in absurd (h (rw e))
-
--- the same of a letter that was read
-pub letter-inside : (s : List ℕ) (at : ℕ) {b count : ℕ} → b ≡ get_or s at 0 → count ≡ numbers_after b → count ≢ 0 → at < length s
-letter-inside s at e f n = letter-here s at (λ z. n (f ∙ ap numbers_after e ∙ z))
+    go (no n) =
+        let e : get_or s at 0 ≡ 0 = omega arith in
+        let z : None ≡ Some b = sym (ap letter_of e ∙ past-end) ∙ h in
+        let u : ◌≡◌ {A = ℕ} 0 1 = cc in
+        absurd (omega arith)
 
 module _ (s : List ℕ) (at : ℕ) (x : Step) (next : ℕ) where
-  abbrev c : ℕ
-  c = get_or s at 0
+  module _ (c : Letter) (told : letter_of (get_or s at 0) ≡ Some c) where
+    chain-of : (i n j m r l : ℕ) (z : Bool) (e : ℕ) → next_number s (at + 1) true ≡ got i n → next_number s n (ltb 1 (numbers_after c)) ≡ got j m
+        → next_number s m (ltb 2 (numbers_after c)) ≡ got r l → end_at s l (may_cut c) ≡ got z e → got (step_of c i j r z) e ≡ got x next → Chain s at x next
+    chain-of i n j m r l z e one two three last whole =
+        let same : e ≡ next = same_place whole in
+        let step : x ≡ step_of c i j r z = sym (same-thing whole) in
+        let last' : end_at s l (may_cut c) ≡ got z next = last ∙ ap (got z) same in
+        let end = end_known s l (may_cut c) z next last' in
+        let m-in = next_here s m (ltb 2 (numbers_after c)) r l three end.here in
+        record {
+          letter = c;
+          first = i;
+          second = j;
+          third = r;
+          n = n;
+          m = m;
+          l = l;
+          cut = z;
+          told = told;
+          one = one;
+          two = two;
+          three = three;
+          last = last';
+          step = step;
+          here = letter-here s at told;
+          one_inside = next_here s n (ltb 1 (numbers_after c)) j m two m-in;
+          two-inside = m-in;
+          three-inside = end.here;
+          end = end;
+        }
 
-  chain-of : (i n j m r l : ℕ) (z : Bool) (e : ℕ) → numbers_after c ≢ 0 → next_number s (at + 1) true ≡ got i n → next_number s n (ltb 1 (numbers_after c)) ≡ got j m
-      → next_number s m (ltb 2 (numbers_after c)) ≡ got r l → end_at s l (may_cut c) ≡ got z e → got (step_of c i j r z) e ≡ got x next → Chain s at x next
-  chain-of i n j m r l z e letter one two three last whole =
-      let same : e ≡ next = ap (λ (y : Read Step). on_read y (λ _. 0) (λ _ k. k)) whole in
-      let step : x ≡ step_of c i j r z = sym (ap (λ (y : Read Step). on_read y (λ _. step_of c i j r z) (λ k _. k)) whole) in
-      let last' : end_at s l (may_cut c) ≡ got z next = last ∙ ap (got z) same in
-      let end = end_known s l (may_cut c) z next last' in
-      let m-in = next_here s m (ltb 2 (numbers_after c)) r l three end.here in
-      record {
-        first = i;
-        second = j;
-        third = r;
-        n = n;
-        m = m;
-        l = l;
-        cut = z;
-        letter = letter;
-        one = one;
-        two = two;
-        three = three;
-        last = last';
-        step = step;
-        here = letter-here s at letter;
-        one_inside = next_here s n (ltb 1 (numbers_after c)) j m two m-in;
-        two-inside = m-in;
-        three-inside = end.here;
-        end = end;
-      }
+    on-end : (i n j m r l : ℕ) → next_number s (at + 1) true ≡ got i n → next_number s n (ltb 1 (numbers_after c)) ≡ got j m
+        → next_number s m (ltb 2 (numbers_after c)) ≡ got r l → (k : Read Bool) → end_at s l (may_cut c) ≡ k
+        → on_read k bad (λ z e. got (step_of c i j r z) e) ≡ got x next → Chain s at x next
+    on-end i n j m r l one two three (Err q) p g = absurd (bad-not g)
+    on-end i n j m r l one two three (Ok (z, e')) p g = chain-of i n j m r l z e' one two three p g
+
+    on-three : (i n j m : ℕ) → next_number s (at + 1) true ≡ got i n → next_number s n (ltb 1 (numbers_after c)) ≡ got j m
+        → (k : Read ℕ) → next_number s m (ltb 2 (numbers_after c)) ≡ k → on_read k bad (λ r l. ended_at c i j r s l) ≡ got x next → Chain s at x next
+    unfolding ended_at
+    on-three i n j m one two (Err q) p g = absurd (bad-not g)
+    on-three i n j m one two (Ok (r, l)) p g = on-end i n j m r l one two p (end_at s l (may_cut c)) refl g
+
+    on-two : (i n : ℕ) → next_number s (at + 1) true ≡ got i n → (k : Read ℕ) → next_number s n (ltb 1 (numbers_after c)) ≡ k
+        → on_read k bad (λ j m. on_read (next_number s m (ltb 2 (numbers_after c))) bad (λ r l. ended_at c i j r s l)) ≡ got x next → Chain s at x next
+    on-two i n one (Err q) p g = absurd (bad-not g)
+    on-two i n one (Ok (j, m)) p g = on-three i n j m one p (next_number s m (ltb 2 (numbers_after c))) refl g
+
+    on_one : (k : Read ℕ) → next_number s (at + 1) true ≡ k
+        → on_read k bad (λ i n. on_read (next_number s n (ltb 1 (numbers_after c))) bad (λ j m. on_read (next_number s m (ltb 2 (numbers_after c))) bad (λ r l. ended_at c i j r s l))) ≡ got x next
+        → Chain s at x next
+    on_one (Err q) p g = absurd (bad-not g)
+    on_one (Ok (i, n)) p g = on-two i n p (next_number s n (ltb 1 (numbers_after c))) refl g
+
+  on-letter : (o : Option Letter) → letter_of (get_or s at 0) ≡ o → on_letter o (bad at) (λ b. after_letter b s (at + 1)) ≡ got x next → Chain s at x next
+  unfolding after_letter
+  on-letter None p g = absurd (bad-not g)
+  on-letter (Some c) p g = on_one c p (next_number s (at + 1) true) refl g
 
   pub line-chain : line_at s at ≡ got x next → Chain s at x next
-  unfolding line_at after_letter ended_at
-  line-chain e = letter (eqb (numbers_after c) 0) refl e
-    where
-      on-end : (i n j m r l : ℕ) → numbers_after c ≢ 0 → next_number s (at + 1) true ≡ got i n → next_number s n (ltb 1 (numbers_after c)) ≡ got j m
-          → next_number s m (ltb 2 (numbers_after c)) ≡ got r l → (k : Read Bool) → end_at s l (may_cut c) ≡ k
-          → on_read k bad (λ z e. got (step_of c i j r z) e) ≡ got x next → Chain s at x next
-      on-end i n j m r l h one two three (Err q) p g = absurd (bad-not g)
-      on-end i n j m r l h one two three (Ok (z, e')) p g = chain-of i n j m r l z e' h one two three p g
-
-      on-three : (i n j m : ℕ) → numbers_after c ≢ 0 → next_number s (at + 1) true ≡ got i n → next_number s n (ltb 1 (numbers_after c)) ≡ got j m
-          → (k : Read ℕ) → next_number s m (ltb 2 (numbers_after c)) ≡ k
-          → on_read k bad (λ r l. on_read (end_at s l (may_cut c)) bad (λ z e. got (step_of c i j r z) e)) ≡ got x next → Chain s at x next
-      on-three i n j m h one two (Err q) p g = absurd (bad-not g)
-      on-three i n j m h one two (Ok (r, l)) p g = on-end i n j m r l h one two p (end_at s l (may_cut c)) refl g
-
-      on-two : (i n : ℕ) → numbers_after c ≢ 0 → next_number s (at + 1) true ≡ got i n → (k : Read ℕ) → next_number s n (ltb 1 (numbers_after c)) ≡ k
-          → on_read k bad (λ j m. on_read (next_number s m (ltb 2 (numbers_after c))) bad (λ r l. on_read (end_at s l (may_cut c)) bad (λ z e. got (step_of c i j r z) e))) ≡ got x next
-          → Chain s at x next
-      on-two i n h one (Err q) p g = absurd (bad-not g)
-      on-two i n h one (Ok (j, m)) p g = on-three i n j m h one p (next_number s m (ltb 2 (numbers_after c))) refl g
-
-      on_one : numbers_after c ≢ 0 → (k : Read ℕ) → next_number s (at + 1) true ≡ k
-          → on_read k bad (λ i n. on_read (next_number s n (ltb 1 (numbers_after c))) bad (λ j m. on_read (next_number s m (ltb 2 (numbers_after c))) bad (λ r l. on_read (end_at s l (may_cut c)) bad (λ z e. got (step_of c i j r z) e)))) ≡ got x next
-          → Chain s at x next
-      on_one h (Err q) p g = absurd (bad-not g)
-      on_one h (Ok (i, n)) p g = on-two i n h p (next_number s n (ltb 1 (numbers_after c))) refl g
-
-      letter : (b : Bool) → eqb (numbers_after c) 0 ≡ b → pick b (bad at) (after_letter c s (at + 1)) ≡ got x next → Chain s at x next
-      letter true p g = absurd (bad-not g)
-      letter false p g = on_one (eqb-false (numbers_after c) 0 p) (next_number s (at + 1) true) refl g
+  unfolding line_at
+  line-chain e = on-letter (letter_of (get_or s at 0)) refl e
 
 -- ---- what the code asks and has read
 
@@ -282,50 +285,58 @@ module _ (s : List ℕ) (at : ℕ) (k : KnownLine s at) where
   pub first-known : KnownNext s (at + 1) true
   first-known = record { value = chain.first; next = chain.n; is = chain.one; inside = chain.one_inside }
 
-  module _ {count : ℕ} (counted : count ≡ numbers_after (get_or s at 0)) {a : ℕ × ℕ} (one : next_number s (at + 1) true ≡ Ok a) where
-    abbrev after_one : got chain.first chain.n ≡ Ok a
-    after_one = sym chain.one ∙ one
+  module _ {letter : Letter} (told : letter_of (get_or s at 0) ≡ Some letter) where
+    same-letter : letter ≡ chain.letter
+    same-letter = let e : Some letter ≡ Some chain.letter = sym told ∙ chain.told in cc
 
-    two_is : next_number s a.1 (ltb 1 count) ≡ got chain.second chain.m
-    two_is =
-        ap (λ (i : ℕ). next_number s i (ltb 1 count)) (sym (same_place after_one)) ∙ (ap (λ (i : ℕ). next_number s chain.n (ltb 1 i)) counted ∙ chain.two)
+    module _ {count : ℕ} (counted : count ≡ numbers_after letter) {a : ℕ × ℕ} (one : next_number s (at + 1) true ≡ Ok a) where
+      abbrev count_is : count ≡ numbers_after chain.letter
+      count_is = counted ∙ ap numbers_after same-letter
 
-    pub second-known : KnownNext s a.1 (ltb 1 count)
-    second-known = record { value = chain.second; next = chain.m; is = two_is; inside = chain.two-inside }
+      abbrev after_one : got chain.first chain.n ≡ Ok a
+      after_one = sym chain.one ∙ one
 
-    module _ {b : ℕ × ℕ} (two : next_number s a.1 (ltb 1 count) ≡ Ok b) where
-      abbrev after_two : got chain.second chain.m ≡ Ok b
-      after_two = sym two_is ∙ two
+      two_is : next_number s a.1 (ltb 1 count) ≡ got chain.second chain.m
+      two_is =
+          ap (λ (i : ℕ). next_number s i (ltb 1 count)) (sym (same_place after_one)) ∙ (ap (λ (i : ℕ). next_number s chain.n (ltb 1 i)) count_is ∙ chain.two)
 
-      three-is : next_number s b.1 (ltb 2 count) ≡ got chain.third chain.l
-      three-is =
-          ap (λ (i : ℕ). next_number s i (ltb 2 count)) (sym (same_place after_two)) ∙ (ap (λ (i : ℕ). next_number s chain.m (ltb 2 i)) counted ∙ chain.three)
+      pub second-known : KnownNext s a.1 (ltb 1 count)
+      second-known = record { value = chain.second; next = chain.m; is = two_is; inside = chain.two-inside }
 
-      pub third-known : KnownNext s b.1 (ltb 2 count)
-      third-known = record { value = chain.third; next = chain.l; is = three-is; inside = chain.three-inside }
+      module _ {b : ℕ × ℕ} (two : next_number s a.1 (ltb 1 count) ≡ Ok b) where
+        abbrev after_two : got chain.second chain.m ≡ Ok b
+        after_two = sym two_is ∙ two
 
-      module _ {c : ℕ × ℕ} (three : next_number s b.1 (ltb 2 count) ≡ Ok c) where
-        abbrev after-three : got chain.third chain.l ≡ Ok c
-        after-three = sym three-is ∙ three
+        three-is : next_number s b.1 (ltb 2 count) ≡ got chain.third chain.l
+        three-is =
+            ap (λ (i : ℕ). next_number s i (ltb 2 count)) (sym (same_place after_two)) ∙ (ap (λ (i : ℕ). next_number s chain.m (ltb 2 i)) count_is ∙ chain.three)
 
-        pub end_read : Ended s c.1 chain.cut k.next
-        end_read = subst (λ (i : ℕ). Ended s i chain.cut k.next) (same_place after-three) chain.end
+        pub third-known : KnownNext s b.1 (ltb 2 count)
+        third-known = record { value = chain.third; next = chain.l; is = three-is; inside = chain.three-inside }
 
-        place_read : {x : Bool} → eqb (get_or s c.1 0) 32 ≡ x → k.next ≡ pick x (c.1 + 3) (c.1 + 1)
-        place_read told = end_read.place ∙ ap (λ (i : Bool). pick i (c.1 + 3) (c.1 + 1)) (sym end_read.told ∙ told)
+        module _ {c : ℕ × ℕ} (three : next_number s b.1 (ltb 2 count) ≡ Ok c) where
+          abbrev after-three : got chain.third chain.l ≡ Ok c
+          after-three = sym three-is ∙ three
 
-        -- the whole line, where its end tells whether the step is cut
-        pub line_read : {x : Bool} {y : Step} → eqb (get_or s c.1 0) 32 ≡ x → y ≡ step_of (get_or s at 0) a.0 b.0 c.0 (eqb (get_or s c.1 0) 32)
-            → line_at s at ≡ got y (pick x (c.1 + 3) (c.1 + 1))
-        line_read {x} {y} told is =
-            k.is
-            ∙ ap₂ got
-            (chain.step
-            ∙ (ap (λ (i : ℕ). step_of (get_or s at 0) i chain.second chain.third chain.cut) (same-thing after_one)
-            ∙ (ap (λ (i : ℕ). step_of (get_or s at 0) a.0 i chain.third chain.cut) (same-thing after_two)
-            ∙ (ap₂ (step_of (get_or s at 0) a.0 b.0) (same-thing after-three) (sym end_read.told) ∙ sym is))))
-            (place_read told)
+          pub end_read : Ended s c.1 chain.cut k.next
+          end_read = subst (λ (i : ℕ). Ended s i chain.cut k.next) (same_place after-three) chain.end
 
-        -- it stands within the file
-        pub line-inside : {x : Bool} → eqb (get_or s c.1 0) 32 ≡ x → pick x (c.1 + 3) (c.1 + 1) ≤ length s
-        line-inside told = subst (λ (i : ℕ). i ≤ length s) (place_read told) end_read.high
+          place_read : {x : Bool} → eqb (get_or s c.1 0) 32 ≡ x → k.next ≡ pick x (c.1 + 3) (c.1 + 1)
+          place_read told = end_read.place ∙ ap (λ (i : Bool). pick i (c.1 + 3) (c.1 + 1)) (sym end_read.told ∙ told)
+
+          -- the whole line, where its end tells whether the step is cut
+          pub line_read : {x : Bool} {y : Step} → eqb (get_or s c.1 0) 32 ≡ x → y ≡ step_of letter a.0 b.0 c.0 (eqb (get_or s c.1 0) 32)
+              → line_at s at ≡ got y (pick x (c.1 + 3) (c.1 + 1))
+          line_read {x} {y} told is =
+              k.is
+              ∙ ap₂ got
+              (chain.step
+              ∙ (ap (λ (i : Letter). step_of i chain.first chain.second chain.third chain.cut) (sym same-letter)
+              ∙ (ap (λ (i : ℕ). step_of letter i chain.second chain.third chain.cut) (same-thing after_one)
+              ∙ (ap (λ (i : ℕ). step_of letter a.0 i chain.third chain.cut) (same-thing after_two)
+              ∙ (ap₂ (step_of letter a.0 b.0) (same-thing after-three) (sym end_read.told) ∙ sym is)))))
+              (place_read told)
+
+          -- it stands within the file
+          pub line-inside : {x : Bool} → eqb (get_or s c.1 0) 32 ≡ x → pick x (c.1 + 3) (c.1 + 1) ≤ length s
+          line-inside told = subst (λ (i : ℕ). i ≤ length s) (place_read told) end_read.high

@@ -23,7 +23,7 @@ use Rattle.schedule.specs.Line.{closed, line_of, line_at}
 use Rattle.schedule.specs.Header.{word_at, alone_at, header_at, count_at, values_word, warmup_word, measured_word}
 use Rattle.schedule.specs.Values.{value_at}
 use Rattle.schedule.specs.Schedule.{section_of, fault_at, line_fault, too_long, part_at, measured_from, warmup_from, values_from, read_file}
-use Rattle.schedule.specs.Private.{LastLf, place_after, stop_of, rows_end, values_read, PartGood, PartIs, OpeningGood, ValuesAre, StepsAre, FormIs}
+use Rattle.schedule.specs.Private.{read_to, rows_end, values_read, PartGood, PartIs, OpeningGood, ValuesAre, StepsAre, FormIs}
 use Rattle.text.specs.declared.number.Broken.{Broken}
 use Rattle.schedule.specs.declared.fault.BrokenLine.{BrokenLine}
 use Rattle.schedule.specs.declared.part.Part.{Part}
@@ -33,7 +33,6 @@ use Rattle.schedule.specs.declared.file.Places.{Places}
 use Rattle.schedule.proofs.Reading.InARow.{rows, one_less, end-broken, end_more, end_none, found, faulted, lines_long, broken-below}
 use Rattle.schedule.proofs.RoundTrip.File.{part-got, part-read, read-got, read-long, values-got, warmup-got, measured-got, opened}
 use Rattle.text.proofs.StandsLaws.{stands-high}
-use Rattle.schedule.proofs.Reading.NoLf.{no_line}
 use Rattle.schedule.proofs.Reading.Bounds.{header-within, header-high, count-high, steps-within, values-within}
 
 -- ---- a section's first line
@@ -118,11 +117,6 @@ module _ {s : List ℕ} {at n : ℕ} {values : List ℕ} {i place : ℕ} (h : Fi
       h.is ∙ ap (λ (k : ℕ). prepended (take i values) (lines_at (value_at s) k i place)) none
       ∙ ap (λ (l : List ℕ). rows l place) (append-nil (take i values) ∙ ap (λ (k : ℕ). take k values) q)
 
--- what stops reading a line that breaks the form is the place where it does
-stop_is : {r : Read Step} {p stop : ℕ} → r ≡ bad p → stop ≡ stop_of r → stop ≡ p
-unfolding stop_of
-stop_is e f = f ∙ rw e
-
 -- ---- step lines, checked one by one
 
 -- i of count lines keep the form; the others begin at place
@@ -133,37 +127,23 @@ pub record Checking (s : List ℕ) (at count i place : ℕ) : Type 0 where
 pub checking-none : (s : List ℕ) (at count : ℕ) → Checking s at count 0 at
 checking-none s at count = record { low = omega arith; is = ap (λ (k : ℕ). rows_end (lines_at (line_at s) k 0 at)) (omega arith) }
 
-record Stood (r : Read Step) (m : ℕ) : Type 0 where
-  step : Step
-  is : r ≡ got step m
-
-line-stood : (r : Read Step) {m : ℕ} → Ok m ≡ place_after r → Stood r m
-unfolding place_after
-line-stood (Err b) e = let z : ◌≡◌ {A = ℕ} 0 1 = cc in absurd (omega arith)
-line-stood (Ok (x, k)) {m} e = let q : m ≡ k = cc in record { step = x; is = ap (got x) (sym q) }
-
-line-broke : (r : Read Step) {b : Broken} → Err b ≡ place_after r → r ≡ Err b
-unfolding place_after
-line-broke (Err c) e = cc
-line-broke (Ok (x, m)) e = let z : ◌≡◌ {A = ℕ} 0 1 = cc in absurd (omega arith)
-
 module _ {s : List ℕ} {at count i place : ℕ} (h : Checking s at count i place) where
-  -- no line stands behind the last LF
-  pub checking-late : {end stop : ℕ} → LastLf s end → i < count → end ≤ place → stop ≡ stop_of (line_at s place) → broken_at i place stop ≡ rows_end (lines_at (line_at s) count 0 at)
-  checking-late {end} {stop} l less q e =
-      let n = no_line s place (λ j p. l.none j (omega arith)) in
-      ap (broken_at i place) (stop_is n.is e) ∙ sym (h.is ∙ end-broken (line_at s) count i place less n.is)
+  -- a reader of the file reads a line
+  module _ {t : List ℕ} (r : Result Step Broken) (m : ℕ) (same : t ≡ s) (less : i < count) (read : line_at t place ≡ read_to r m) where
+    line-here : line_at s place ≡ read_to r m
+    line-here = subst (λ (l : List ℕ). line_at l place ≡ read_to r m) same read
 
-  module _ {r : Result ℕ Broken} (less : i < count) (e : r ≡ place_after (line_at s place)) where
-    -- a faulty line
+    -- a faulty one
     pub checking-broken : {b : Broken} → r ≡ Err b → broken_at i place b.place ≡ rows_end (lines_at (line_at s) count 0 at)
-    checking-broken z = sym (h.is ∙ end-broken (line_at s) count i place less (line-broke (line_at s place) (sym z ∙ e)))
+    unfolding read_to
+    checking-broken {b} z = let told : read_to r m ≡ bad b.place = rw z in sym (h.is ∙ end-broken (line_at s) count i place less (line-here ∙ told))
 
-    -- one more line
-    pub checking-on : {m : ℕ} → r ≡ Ok m → Checking s at count (i + 1) m
-    checking-on z =
-        let k = line-stood (line_at s place) (sym z ∙ e) in
-        record { low = omega arith; is = h.is ∙ end_more (line_at s) count i place less k.is }
+    -- one more
+    pub checking-on : {st : Step} → r ≡ Ok st → Checking s at count (i + 1) m
+    unfolding read_to
+    checking-on {st} z =
+        let told : read_to r m ≡ got st m = rw z in
+        record { low = omega arith; is = h.is ∙ end_more (line_at s) count i place less (line-here ∙ told) }
 
   -- all lines are checked
   pub checking-done : count ≤ i → Ok place ≡ rows_end (lines_at (line_at s) count 0 at)

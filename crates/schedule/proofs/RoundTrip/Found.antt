@@ -7,7 +7,8 @@ use native.Mathlib.Omega.{arith}
 use lib.Dec.{eqb, ltb}
 use lib.ListN.{get_or}
 use borrow.Author.Tests.{eqb-true}
-use Rattle.std.specs.Prelude.{Ok, Err}
+use Rattle.std.specs.Prelude.{Option, Some, None, Ok, Err}
+use Rattle.schedule.specs.declared.letter.Letter.{Letter}
 use Rattle.text.specs.Read.{Read, bad, on_read}
 use Rattle.text.proofs.ReadLaws.{got}
 use Rattle.rules.specs.Kinds.{numbers_of, round_of}
@@ -16,11 +17,11 @@ use Rattle.rules.specs.declared.step.Step.TheVariants.{Pause}
 use Rattle.text.specs.Number.{pick, number_at, spelled}
 use Rattle.text.specs.Stands.{Stands}
 use Rattle.schedule.specs.Lines.{Every}
-use Rattle.schedule.specs.Line.{ending, spaced, line_of, Holdable, numbers_after, may_cut, step_of, spaced_at, next_number, end_at, ended_at, after_letter, line_at, Small}
+use Rattle.schedule.specs.Line.{ending, spaced, line_of, Holdable, letter_of, on_letter, numbers_after, may_cut, step_of, spaced_at, next_number, end_at, ended_at, after_letter, line_at, Small}
 use Rattle.text.proofs.StandsLaws.{stands-none, stands-join, stands-byte, stands-cons}
 use Rattle.text.proofs.SpellLaws.{number_read}
 use Rattle.text.proofs.StopLaws.{Begins, begins-none, begins-longer, begins-after, number-begins}
-use Rattle.schedule.proofs.RoundTrip.StepLine.{wanted_text, WantedSmall, CutOnly, body_of, Body, Letter, letter}
+use Rattle.schedule.proofs.RoundTrip.StepLine.{wanted_text, WantedSmall, CutOnly, body_of, Body, byte_of, Lettered, lettered, letter_byte}
 
 -- the text from at up to p is the beginning of what f spells of a thing
 pub record Begun {A : Type 0} (P : A → Type 0) (f : A → List ℕ) (s : List ℕ) (at p : ℕ) : Type 0 where
@@ -142,7 +143,7 @@ module _ (s : List ℕ) where
   wanted-zero false = refl
 
   -- the letter b at a place, and number by number what follows it. What is not yet read: 0 for each number, and no cut
-  module _ (at b : ℕ) (e : get_or s at 0 ≡ b) (t : Letter b) where
+  module _ (at : ℕ) (b : Letter) (e : get_or s at 0 ≡ byte_of b) (t : Lettered b) where
     abbrev second : Bool
     second = ltb 1 (numbers_after b)
 
@@ -152,11 +153,11 @@ module _ (s : List ℕ) where
     abbrev NumberForm : ℕ → Bool → Read ℕ → Type 0
     NumberForm n w r = Form (WantedSmall w) (wanted_text w) n r
 
-    lettered : (p i j r : ℕ) (x : Bool) → Body b i j r x → Begins s (at + 1) p (body_of b i j r x) → Begun Holdable line_of s at p
-    lettered p i j r x h g = record {
+    begun-line : (p i j r : ℕ) (x : Bool) → Body b i j r x → Begins s (at + 1) p (body_of b i j r x) → Begun Holdable line_of s at p
+    begun-line p i j r x h g = record {
       thing = step_of b i j r x;
       holds = t.holds i j r x h;
-      begins = subst (Begins s at p) (sym (t.line i j r x h)) (begins-after (stands-byte s at b t.byte e) g);
+      begins = subst (Begins s at p) (sym (t.line i j r x h)) (begins-after (stands-byte s at (byte_of b) (t.some) e) g);
     }
 
     after-end : (i j r n k l : ℕ) → NumberForm (at + 1) true (got i n) → NumberForm n second (got j k) → NumberForm k third (got r l)
@@ -166,11 +167,11 @@ module _ (s : List ℕ) where
         let last : List ℕ = wanted_text third r (ending x) in
         let stand : Stands s (at + 1) m (body_of b i j r x) =
         head-stands m (wanted_text second j last) f.1 (head-stands m last g.1 (head-stands m (ending x) h.1 c.1)) in
-        (t.holds i j r x body, subst (Stands s at m) (sym (t.line i j r x body)) (stands-cons s at m b (body_of b i j r x) t.byte e stand))
+        (t.holds i j r x body, subst (Stands s at m) (sym (t.line i j r x body)) (stands-cons s at m (byte_of b) (body_of b i j r x) t.some e stand))
     after-end i j r n k l f g h (Err p) c =
         let x : Bool = c.thing in
         let last : List ℕ = wanted_text third r (ending x) in
-        lettered p.place i j r x (record { first = f.0; second = g.0; third = h.0; cut = c.holds })
+        begun-line p.place i j r x (record { first = f.0; second = g.0; third = h.0; cut = c.holds })
         (head-begins p.place (wanted_text second j last) f.1 (head-begins p.place last g.1 (head-begins p.place (ending x) h.1 c.begins)))
 
     ended-form : (i j r n k l : ℕ) → NumberForm (at + 1) true (got i n) → NumberForm n second (got j k) → NumberForm k third (got r l) → LineForm at (ended_at b i j r s l)
@@ -183,7 +184,7 @@ module _ (s : List ℕ) where
     after-third i j n k f g (Err p) h =
         let c = h (ending false) in
         let last : List ℕ = wanted_text third c.thing (ending false) in
-        lettered p.place i j c.thing false (record { first = f.0; second = g.0; third = c.holds; cut = uncut (may_cut b) })
+        begun-line p.place i j c.thing false (record { first = f.0; second = g.0; third = c.holds; cut = uncut (may_cut b) })
         (head-begins p.place (wanted_text second j last) f.1 (head-begins p.place last g.1 c.begins))
 
     after-second : (i n : ℕ) → NumberForm (at + 1) true (got i n) → (q : Read ℕ) → NumberForm n second q
@@ -192,7 +193,7 @@ module _ (s : List ℕ) where
     after-second i n f (Err p) g =
         let last : List ℕ = wanted_text third 0 (ending false) in
         let c = g last in
-        lettered p.place i c.thing 0 false (record { first = f.0; second = c.holds; third = wanted-zero third; cut = uncut (may_cut b) })
+        begun-line p.place i c.thing 0 false (record { first = f.0; second = c.holds; third = wanted-zero third; cut = uncut (may_cut b) })
         (head-begins p.place (wanted_text second c.thing last) f.1 c.begins)
 
     after_first : (q : Read ℕ) → NumberForm (at + 1) true q
@@ -201,7 +202,7 @@ module _ (s : List ℕ) where
     after_first (Ok (i, n)) f = after-second i n f (next_number s n second) (next-form n second)
     after_first (Err p) f =
         let c = f (wanted_text second 0 (wanted_text third 0 (ending false))) in
-        lettered p.place c.thing 0 0 false (record { first = c.holds; second = wanted-zero second; third = wanted-zero third; cut = uncut (may_cut b) }) c.begins
+        begun-line p.place c.thing 0 0 false (record { first = c.holds; second = wanted-zero second; third = wanted-zero third; cut = uncut (may_cut b) }) c.begins
 
     after-form : LineForm at (after_letter b s (at + 1))
     unfolding after_letter
@@ -211,13 +212,13 @@ module _ (s : List ℕ) where
   unfolding numbers_of round_of Every
   no-letter at = begun-none (Pause 0) ((omega arith, tt), omega arith)
 
-  line-pick : (at b : ℕ) → get_or s at 0 ≡ b → (x : Bool) → eqb (numbers_after b) 0 ≡ x → LineForm at (pick x (bad at) (after_letter b s (at + 1)))
-  line-pick at b e true n = no-letter at
-  line-pick at b e false n = after-form at b e (letter b n)
+  line-letter : (at : ℕ) (o : Option Letter) → letter_of (get_or s at 0) ≡ o → LineForm at (on_letter o (bad at) (λ b. after_letter b s (at + 1)))
+  line-letter at None e = no-letter at
+  line-letter at (Some b) e = after-form at b (letter_byte (get_or s at 0) b e) (lettered b)
 
   line-form : (at : ℕ) → LineForm at (line_at s at)
   unfolding line_at
-  line-form at = line-pick at (get_or s at 0) refl (eqb (numbers_after (get_or s at 0)) 0) refl
+  line-form at = line-letter at (letter_of (get_or s at 0)) refl
 
   pub line-begins : (at p : ℕ) → line_at s at ≡ bad p → Begun Holdable line_of s at p
   line-begins at p e = subst (LineForm at) e (line-form at)

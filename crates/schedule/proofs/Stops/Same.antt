@@ -7,12 +7,13 @@ use native.Mathlib.Omega.{arith}
 use lib.Dec.{eqb, ltb}
 use lib.ListN.{length, get_or}
 use borrow.Author.Tests.{lt-ltb}
-use Rattle.std.specs.Prelude.{Result, Ok, Err}
+use Rattle.std.specs.Prelude.{Option, Some, None, Result, Ok, Err}
+use Rattle.schedule.specs.declared.letter.Letter.{Letter}
 use Rattle.text.specs.declared.number.Broken.{Broken}
 use Rattle.text.specs.Read.{Read, bad, on_read}
 use Rattle.text.proofs.ReadLaws.{got}
 use Rattle.text.specs.Number.{pick, number_at}
-use Rattle.schedule.specs.Line.{numbers_after, may_cut, step_of, closed, spaced_at, next_number, end_at, ended_at, after_letter, line_at}
+use Rattle.schedule.specs.Line.{letter_of, on_letter, numbers_after, may_cut, step_of, closed, spaced_at, next_number, end_at, ended_at, after_letter, line_at}
 use Rattle.schedule.specs.Header.{on_word, word_at, alone_at, header_at}
 use Rattle.schedule.specs.Values.{value_at}
 use Rattle.text.proofs.StopLaws.{Same, Local, local-none, local-byte, local-pick, local-later, stop_at, number-local, begins-low}
@@ -87,15 +88,15 @@ end-local at may =
     (λ d. local-pick (eqb d 10) (local-none (omega arith)) (local-none (omega arith)))))
     (local-none (omega arith))))) (local-none (omega arith))) (local-none (omega arith))))
 
-end-stop : (b i j r : ℕ) (q : Read Bool) → stop_of_end q ≡ stop_of_item (on_read q bad (λ x e. got (step_of b i j r x) e))
+end-stop : (b : Letter) (i j r : ℕ) (q : Read Bool) → stop_of_end q ≡ stop_of_item (on_read q bad (λ x e. got (step_of b i j r x) e))
 end-stop b i j r (Err p) = refl
 end-stop b i j r (Ok (x, m)) = refl
 
-ended-local : (b i j r at : ℕ) → Local stop_of_item at (λ s. ended_at b i j r s at)
+ended-local : (b : Letter) (i j r at : ℕ) → Local stop_of_item at (λ s. ended_at b i j r s at)
 unfolding ended_at
 ended-local b i j r at = local-made (λ q. on_read q bad (λ x e. got (step_of b i j r x) e)) (end-stop b i j r) (end-local at (may_cut b))
 
-after-local : (b at : ℕ) → Local stop_of_item at (λ s. after_letter b s at)
+after-local : (b : Letter) (at : ℕ) → Local stop_of_item at (λ s. after_letter b s at)
 unfolding after_letter
 after-local b at =
     local-on bad (λ p. refl)
@@ -105,11 +106,13 @@ after-local b at =
     (next-local n (ltb 1 (numbers_after b))))
     (next-local at true)
 
+letter-local : (at : ℕ) (o : Option Letter) → Local stop_of_item at (λ s. on_letter o (bad at) (λ b. after_letter b s (at + 1)))
+letter-local at None = local-none (omega arith)
+letter-local at (Some b) = local-later {n = at + 1} (omega arith) (after-local b (at + 1))
+
 line-local : (at : ℕ) → Local stop_of_item at (λ s. line_at s at)
 unfolding line_at
-line-local at =
-    local-byte (λ b s. pick (eqb (numbers_after b) 0) (bad at) (after_letter b s (at + 1)))
-    (λ b. local-pick (eqb (numbers_after b) 0) (local-none (omega arith)) (local-later {n = at + 1} (omega arith) (after-local b (at + 1))))
+line-local at = local-byte (λ c s. on_letter (letter_of c) (bad at) (λ b. after_letter b s (at + 1))) (λ c. letter-local at (letter_of c))
 
 value-local : (at : ℕ) → Local stop_at at (λ s. value_at s at)
 unfolding value_at
