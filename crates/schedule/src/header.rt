@@ -15,17 +15,15 @@ use text::number::Broken;
 pub(crate) fn word_at(s: &[u8], at: usize, word: &[u8]) -> Result<usize, Broken>
     ensures { result ≡ word_at s.now at word.now }
 {
-    let mut i = 0;
     let mut place = at;
-    while i < word.len() {
+    for byte in word {
         if place >= s.len() {
             return Err(Broken { place });
         }
-        if s[place] != word[i] {
+        if s[place] != *byte {
             return Err(Broken { place });
         }
         place += 1;
-        i += 1;
     }
     Ok(place)
 }

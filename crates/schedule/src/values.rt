@@ -29,23 +29,21 @@ pub(crate) fn read_values(
     ensures { lines_at (value_at s.now) n 0 at ≡ values_read n result }
 {
     let mut values = [0u32; Group::GREATEST];
-    let mut i = 0;
     let mut place = at;
-    while i < n {
+    for index in 0..n {
         match value_at(s, place) {
             Ok((value, next)) => {
-                values[i] = value;
+                values[index] = value;
                 place = next;
             }
             Err(broken) => {
                 return Err(BrokenLine {
-                    index: i as u32,
+                    index: index as u32,
                     from: place,
                     place: broken.place,
                 });
             }
         }
-        i += 1;
     }
     Ok((values, place))
 }
