@@ -31,7 +31,7 @@ use Rattle.rules.specs.Run.{start_state, next, after, answers}
 use Rattle.rules.proofs.Cited.{and_left, and_right}
 use Rattle.text.specs.Number.{is_digit, scan, number_at, spell}
 use Rattle.schedule.specs.Lines.{before, lines_at}
-use Rattle.schedule.specs.Line.{numbers_after, may_cut, step_of, closed, spaced_at, next_number, end_at, ended_at, after_letter, line_at}
+use Rattle.schedule.specs.Line.{letter_of, numbers_after, may_cut, step_of, closed, spaced_at, next_number, end_at, ended_at, after_letter, line_at}
 use Rattle.schedule.specs.Header.{word_at, alone_at, header_at}
 use Rattle.schedule.specs.Values.{value_at}
 use Rattle.schedule.specs.Schedule.{part_at, measured_from, warmup_from, values_from, read_file}
@@ -71,7 +71,7 @@ unfolding ones
     idles or_idle unless_refused course handed_of hand_overs sent_by again_by decides_now settled stepped
     start_state next after answers
     is_digit scan number_at spell
-    before lines_at numbers_after may_cut step_of closed spaced_at next_number end_at ended_at after_letter line_at
+    before lines_at letter_of numbers_after may_cut step_of closed spaced_at next_number end_at ended_at after_letter line_at
     word_at alone_at header_at value_at part_at measured_from warmup_from values_from read_file
     counts_in counts_of has_run run_by run_of
     filled section_line processes_line process_line line_of_process process_lines done_text report_of

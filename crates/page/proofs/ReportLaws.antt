@@ -1,13 +1,12 @@
 -- The laws of the report: one process line more, a run's group has at most 16 processes, and how the report of a run splits. Assumes nothing.
 use Prim.Native.Nat.{ℕ, zero, suc, ◌-◌, ◌*◌, ◌≤◌}
 use mathlib.Core.Path.{◌≡◌, sym, ap, ap₂, ◌∙◌}
-use mathlib.Core.Bool.{Bool, true, false}
 use mathlib.Core.List.{List, [], ◌∷◌, ◌++◌}
 use native.Mathlib.Omega.{arith}
 use lib.ListN.{length, drop}
-use borrow.Author.Tests.{eq-eqb, ne_eqb}
+use Rattle.std.specs.Prelude.{Bool, true, false, Result, Ok, Err}
+use Rattle.text.specs.Number.{pick}
 use Rattle.rules.specs.Limits.{greatest_size}
-use Rattle.rules.specs.Layout.{blank_group}
 use Rattle.rules.specs.Layout.{record_of, depth_of}
 use Rattle.rules.specs.Start.{started}
 use Rattle.rules.specs.Run.{State, start_state, next, after}
@@ -15,11 +14,11 @@ use Rattle.rules.specs.declared.group.Group.{Group}
 use Rattle.rules.specs.declared.process.Process.{Process}
 use Rattle.rules.specs.declared.step.Step.{Step}
 use Rattle.rules.proofs.Cited.{deep-step-size, deep-starting}
-use Rattle.text.specs.Number.{pick}
 use Rattle.text.specs.Put.{Wrote}
 use Rattle.text.proofs.PutLaws.{wrote-length, wrote-same, wrote-first}
-use Rattle.schedule.specs.Schedule.{Reading, faulty, sound, read_file}
-use Rattle.schedule.specs.Run.{RanOver, ran_over, run_by, run_of, has_run, not_run, begins, between}
+use Rattle.schedule.specs.Schedule.{Reading, read_file}
+use Rattle.schedule.specs.Run.{RanOver, ran_over, run_by, run_of, has_run, begins, between}
+use Rattle.schedule.specs.declared.fault.Fault.{Fault}
 use Rattle.schedule.specs.declared.run.Ran.{Ran}
 use Rattle.page.specs.Filled.{filled}
 use Rattle.page.specs.Private.{longest_of, longest_status, longest_estimate, longest_end, longest_line}
@@ -68,32 +67,36 @@ unfolding after next
 after_small a [] h = h
 after_small a (s ∷ ss) h = after_small (next a s) ss (omega (arith, deep-step-size a.group a.store a.depths s))
 
-pub ran-size : (s l d : List ℕ) → (run_of s l d).ran.group.n ≤ 16
-unfolding run_of run_by has_run not_run blank_group start_state started
+abbrev size_of : Result Ran Fault → ℕ
+size_of (Err f) = 0
+size_of (Ok r) = r.group.n
+
+ran-size : (s l d : List ℕ) → size_of (run_of s l d).ran ≤ 16
+unfolding run_of run_by has_run start_state started
 ran-size s l d = go (read_file s)
   where
-    go : (r : Reading) → (run_by r l d).ran.group.n ≤ 16
-    go (faulty f) = omega arith
-    go (sound h) = after_small (between h l d) h.measured (after_small (begins h l d) h.warmup (deep-starting h.values l d).size)
+    go : (r : Reading) → size_of (run_by r l d).ran ≤ 16
+    go (Err f) = omega arith
+    go (Ok h) = after_small (between h l d) h.measured (after_small (begins h l d) h.warmup (deep-starting h.values l d).size)
 
 -- ---- the report of what was run
 
-module _ (s l d : List ℕ) {l' d' : List ℕ} (r : Ran) (runs : ran_over r l' d' ≡ run_of s l d) where
-  pub runs-size : r.group.n ≤ 16
-  runs-size = omega (arith, ap (λ (o : RanOver). o.ran.group.n) runs, ran-size s l d)
+module _ (s l d : List ℕ) {l' d' : List ℕ} {r : Result Ran Fault} (runs : ran_over r l' d' ≡ run_of s l d) where
+  pub runs-size : {q : Ran} → r ≡ Ok q → q.group.n ≤ 16
+  runs-size g = omega (arith, ap size_of g, ap (λ (o : RanOver). size_of o.ran) runs, ran-size s l d)
 
   reported : {out out' : List ℕ} {k : ℕ} → Wrote out 0 (report_of r) out' k → Reports s l d out l' d' out' k
   reported w = record { bytes = wrote-same (ap (λ (o : RanOver). report_of o.ran) runs) w; store = ap (λ (o : RanOver). o.store) runs; depths = ap (λ (o : RanOver). o.depths) runs }
 
   -- a faulty file's one line
-  pub report-bad : {out out' : List ℕ} {k : ℕ} → (r.fault.number ≡ 0 → ⊥) → Wrote out 0 (fault_line r.fault) out' k → Reports s l d out l' d' out' k
+  pub report-bad : {out out' : List ℕ} {k : ℕ} {f : Fault} → r ≡ Err f → Wrote out 0 (fault_line f) out' k → Reports s l d out l' d' out' k
   unfolding report_of
-  report-bad ne w = reported (wrote-same (sym (ap (λ (x : Bool). pick x (done_text r) (fault_line r.fault)) (ne_eqb r.fault.number 0 ne))) w)
+  report-bad g w = reported (wrote-same (sym (ap report_of g)) w)
 
   -- and a sound one's lines
-  pub report-done : {out out' : List ℕ} {k : ℕ} → r.fault.number ≡ 0 → Wrote out 0 (done_text r) out' k → Reports s l d out l' d' out' k
+  pub report-done : {out out' : List ℕ} {k : ℕ} {q : Ran} → r ≡ Ok q → Wrote out 0 (done_text q) out' k → Reports s l d out l' d' out' k
   unfolding report_of
-  report-done e w = reported (wrote-same (sym (ap (λ (x : Bool). pick x (done_text r) (fault_line r.fault)) (eq-eqb r.fault.number 0 e))) w)
+  report-done g w = reported (wrote-same (sym (ap report_of g)) w)
 
 -- what the contract says of the lent array: the report, and behind it what lay there
 pub report-whole : (s l d : List ℕ) {l' d' out out' : List ℕ} {k : ℕ} → Reports s l d out l' d' out' k → out' ≡ report_of (run_of s l d).ran ++ drop k out

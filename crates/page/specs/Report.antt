@@ -1,10 +1,11 @@
 -- Document 01, "The schedule file and the report": the report's bytes. Each `#` of a template stands for a number. Assumes nothing.
-use Rattle.std.specs.Prelude.{◌≡◌, List, [], ◌∷◌, ◌++◌, ℕ, zero, suc, eqb}
+use Rattle.std.specs.Prelude.{◌≡◌, List, [], ◌∷◌, ◌++◌, ℕ, zero, suc, Result, Ok, Err}
 use Rattle.rules.specs.Layout.{record_of, depth_of}
 use Rattle.rules.specs.declared.group.Group.{Group}
 use Rattle.rules.specs.declared.process.Process.{Process}
 use Rattle.text.specs.Number.{pick}
 use Rattle.text.specs.Put.{Wrote}
+use Rattle.schedule.specs.Schedule.{number_of}
 use Rattle.schedule.specs.Run.{run_of}
 use Rattle.schedule.specs.Header.{warmup_word, measured_word}
 use Rattle.schedule.specs.declared.counts.Counts.{Counts}
@@ -18,7 +19,7 @@ bad_text = 66 ∷ 65 ∷ 68 ∷ 32 ∷ 35 ∷ 32 ∷ 35 ∷ 32 ∷ 35 ∷ 10 ∷
 
 -- "the first faulty line is reported as `BAD 9 4` (number, line)", and by request 2026-01 with the column: "`BAD 9 212 7`"
 unfoldable pub fault_line : Fault → List ℕ
-fault_line f = filled bad_text (f.number ∷ f.line ∷ f.column ∷ [])
+fault_line f = filled bad_text (number_of f.flaw ∷ f.line ∷ f.column ∷ [])
 
 -- ` # applied # idle # refused # sent # again # decided #`, and LF
 abbrev pub counts_text : List ℕ
@@ -85,8 +86,9 @@ done_text r =
     section_line warmup_word r.warmup ++ (section_line measured_word r.measured ++ (processes_line r.group.n ++ process_lines r.group r.group.n))
 
 -- a faulty file's report is that one line
-unfoldable pub report_of : Ran → List ℕ
-report_of r = pick (eqb r.fault.number 0) (done_text r) (fault_line r.fault)
+unfoldable pub report_of : Result Ran Fault → List ℕ
+report_of (Err f) = fault_line f
+report_of (Ok r) = done_text r
 
 -- the contract of the report: its bytes stand at the start of the lent array, what lies past them is as it was, and both stores are as the run leaves them
 pub record Reports (s l d out l' d' out' : List ℕ) (r : ℕ) : Type 0 where

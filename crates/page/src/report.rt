@@ -36,7 +36,7 @@ pub(crate) fn put_fault(out: &mut [u8], at: usize, fault: Fault) -> usize
     requires { at + private.longest_fault ≤ length out.old }
     ensures { Piece private.longest_fault out.old at (reports.fault_line fault) out.new result }
 {
-    let number = fault.number as u32;
+    let number = fault.flaw.number() as u32;
     let line = fault.line;
     let column = fault.column;
     let numbers = [number, line, column];
@@ -117,10 +117,8 @@ pub fn write_report(
 ) -> usize
     ensures { reports.Reports file.now store.old depths.old out.old store.new depths.new out.new result }
 {
-    let ran = run(file, store, depths);
-    let fault = ran.fault;
-    if fault.number != 0 {
-        return put_fault(out, 0, fault);
+    match run(file, store, depths) {
+        Ok(ran) => put_done(out, 0, ran),
+        Err(fault) => put_fault(out, 0, fault),
     }
-    put_done(out, 0, ran)
 }

@@ -4,6 +4,7 @@ use mathlib.Core.List.{List, [], ◌∷◌, ◌++◌}
 use native.Mathlib.Omega.{arith}
 use Prim.Native.Nat.{ℕ, zero, suc, ◌+◌, ◌≤◌, ◌<◌, ◌^◌}
 use lib.ListN.{length, get_or}
+use Rattle.std.specs.Prelude.{Ok}
 use Rattle.rules.specs.Limits.{store_length}
 use Rattle.rules.specs.Tally.{bit_of}
 use Rattle.rules.specs.Layout.{process_at, depth_at}
@@ -18,7 +19,7 @@ use Rattle.rules.specs.declared.step.Step.{Step}
 use Rattle.rules.proofs.Cited.{deep_more, safety}
 use Rattle.text.specs.Number.{most}
 use Rattle.schedule.specs.Counts.{counts_in}
-use Rattle.schedule.specs.Schedule.{Schedule, Reading, sound, read_file, Fits}
+use Rattle.schedule.specs.Schedule.{Schedule, Reading, read_file, Fits}
 use Rattle.schedule.specs.Lines.{Every}
 use Rattle.schedule.specs.Run.{ran_over, counts_of, begins, between, at_end, has_run, run_by, run_of}
 use Rattle.schedule.specs.Promise.{AddsUp, deciders, Promise, Promised}
@@ -120,10 +121,12 @@ module _ (h : Schedule) (l d : List ℕ) (b : Begins h.values l d) where
   at-end : (P : State → Type 0) → P (at h.values l d steps) → P (at_end h l d)
   at-end P x = subst P end_is x
 
-  run-promise : Promise h l d (ran_over (has_run h l d) (at_end h l d).store (at_end h l d).depths)
+  run-promise : Promise h l d (ran_over (Ok (has_run h l d)) (at_end h l d).store (at_end h l d).depths)
   unfolding has_run
   run-promise =
       record {
+        ran = has_run h l d;
+        is_run = refl;
         warmup = section-steps (begins h l d) h.warmup;
         measured = section-steps (between h l d) h.measured;
         warmup-adds = section-adds (begins h l d) h.warmup;
@@ -146,7 +149,7 @@ module _ (h : Schedule) (l d : List ℕ) (b : Begins h.values l d) where
             (safety.longest h.values l d steps b);
       }
 
-run_is : (s l d : List ℕ) (h : Schedule) → read_file s ≡ sound h → run_of s l d ≡ ran_over (has_run h l d) (at_end h l d).store (at_end h l d).depths
+run_is : (s l d : List ℕ) (h : Schedule) → read_file s ≡ Ok h → run_of s l d ≡ ran_over (Ok (has_run h l d)) (at_end h l d).store (at_end h l d).depths
 unfolding run_of run_by
 run_is s l d h e = ap (λ (r : Reading). run_by r l d) e
 

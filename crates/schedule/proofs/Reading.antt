@@ -4,7 +4,6 @@ pub mod Cases
 pub mod Ahead
 pub mod Known
 pub mod InARow
-pub mod NoLf
 -- where reading stops
 pub mod Bounds
 -- a whole file

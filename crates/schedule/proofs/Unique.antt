@@ -5,12 +5,14 @@ use Prim.Native.Nat.{ℕ, ◌<◌}
 use native.Mathlib.Omega.{arith}
 use native.Mathlib.Decide.{dec_lt}
 use lib.ListN.{length}
+use Rattle.std.specs.Prelude.{Result}
 use Rattle.schedule.specs.Files.{BreaksForm}
 use Rattle.schedule.specs.Run.{RanOver, ran_over, run_of}
+use Rattle.schedule.specs.declared.fault.Fault.{Fault}
 use Rattle.schedule.specs.declared.run.Ran.{Ran}
 
 -- of the run: the answer and the whole content of both stores
-pub run-one : (s l d : List ℕ) {r q : Ran} {a b a' b' : List ℕ} → ran_over r a a' ≡ run_of s l d → ran_over q b b' ≡ run_of s l d → (r ≡ q) × (a ≡ b) × (a' ≡ b')
+pub run-one : (s l d : List ℕ) {r q : Result Ran Fault} {a b a' b' : List ℕ} → ran_over r a a' ≡ run_of s l d → ran_over q b b' ≡ run_of s l d → (r ≡ q) × (a ≡ b) × (a' ≡ b')
 run-one s l d x y = (
   ap (λ (o : RanOver). o.ran) (x ∙ sym y),
   ap (λ (o : RanOver). o.store) (x ∙ sym y),

@@ -1,6 +1,6 @@
 -- What holds of every file, stated over how schedules and lines are spelled: what is spelled is read, what is read is spelled, no two files are read as one schedule, and a faulty
 -- file is refused for its first fault, at the first byte that breaks the form. The proofs are in proofs/Files. Assumes nothing.
-use Rattle.std.specs.Prelude.{◌≡◌, List, [], ◌∷◌, ◌++◌, ◌⊎◌, ℕ, ◌+◌, ◌≤◌, ◌<◌, eqb, length}
+use Rattle.std.specs.Prelude.{◌≡◌, List, [], ◌∷◌, ◌++◌, ◌⊎◌, ℕ, ◌+◌, ◌≤◌, ◌<◌, eqb, length, Ok, Err}
 use Rattle.rules.specs.Tally.{bit_of}
 use Rattle.rules.specs.declared.step.Step.{Step}
 use Rattle.schedule.specs.Limits.{longest, most_steps}
@@ -8,8 +8,9 @@ use Rattle.schedule.specs.Lines.{Every, lines_of}
 use Rattle.schedule.specs.Line.{space_byte, line_feed, line_of, Small, Holdable}
 use Rattle.schedule.specs.Header.{values_word, warmup_word, measured_word, header_of}
 use Rattle.schedule.specs.Values.{value_line}
-use Rattle.schedule.specs.Schedule.{Schedule, section_of, file_of, Size, Fits, faulty, sound, too_long, read_file}
+use Rattle.schedule.specs.Schedule.{Schedule, section_of, file_of, Size, Fits, too_long, read_file}
 use Rattle.schedule.specs.declared.fault.Fault.{Fault}
+use Rattle.schedule.specs.declared.fault.Flaw.{Flaw}
 
 -- ---- the lines of a file
 
@@ -101,17 +102,17 @@ pub record Surplus (rest : List ℕ) (column : ℕ) : Type 0 where
   pub place : column ≡ 1
 
 abbrev pub Nine : Place → List ℕ → Fault → Type 0
-Nine p rest f = (f.number ≡ 9) × BreaksForm (Asked p) rest f.column
+Nine p rest f = (f.flaw ≡ Flaw.Form) × BreaksForm (Asked p) rest f.column
 
 -- refusal 9 where the line breaks the form, 1 for "not 1 to 16 values", 10 for "a count that takes the steps above 4,096"
 abbrev pub FaultyLine : Place → List ℕ → Fault → Type 0
-FaultyLine at_values rest f = Nine at_values rest f ⊎ ((f.number ≡ 1) × WrongCount values_word (λ n. Size n → ⊥) rest f.column)
+FaultyLine at_values rest f = Nine at_values rest f ⊎ ((f.flaw ≡ Flaw.Values) × WrongCount values_word (λ n. Size n → ⊥) rest f.column)
 FaultyLine (at_value n vs) rest f = Nine (at_value n vs) rest f
-FaultyLine (at_warmup vs) rest f = Nine (at_warmup vs) rest f ⊎ ((f.number ≡ 10) × WrongCount warmup_word (λ k. most_steps < k) rest f.column)
+FaultyLine (at_warmup vs) rest f = Nine (at_warmup vs) rest f ⊎ ((f.flaw ≡ Flaw.Size) × WrongCount warmup_word (λ k. most_steps < k) rest f.column)
 FaultyLine (at_warmup_step vs k ws) rest f = Nine (at_warmup_step vs k ws) rest f
-FaultyLine (at_measured vs ws) rest f = Nine (at_measured vs ws) rest f ⊎ ((f.number ≡ 10) × WrongCount measured_word (λ k. most_steps < length ws + k) rest f.column)
+FaultyLine (at_measured vs ws) rest f = Nine (at_measured vs ws) rest f ⊎ ((f.flaw ≡ Flaw.Size) × WrongCount measured_word (λ k. most_steps < length ws + k) rest f.column)
 FaultyLine (at_measured_step vs ws k ms) rest f = Nine (at_measured_step vs ws k ms) rest f
-FaultyLine (at_end vs ws ms) rest f = (f.number ≡ 9) × Surplus rest f.column
+FaultyLine (at_end vs ws ms) rest f = (f.flaw ≡ Flaw.Form) × Surplus rest f.column
 
 -- how many LFs stand in a text
 unfoldable pub line_feeds : List ℕ → ℕ
@@ -131,11 +132,11 @@ pub record FirstFault (s : List ℕ) (f : Fault) : Type 0 where
 
 pub record Files : Type 0 where
   -- the file of a schedule is read as that schedule
-  pub spelled : (h : Schedule) → Fits h → read_file (file_of h) ≡ sound h
+  pub spelled : (h : Schedule) → Fits h → read_file (file_of h) ≡ Ok h
   -- a file that is read as a schedule is the file of that schedule
-  pub read : (s : List ℕ) (h : Schedule) → read_file s ≡ sound h → (s ≡ file_of h) × Fits h
+  pub read : (s : List ℕ) (h : Schedule) → read_file s ≡ Ok h → (s ≡ file_of h) × Fits h
   -- no two files are read as one schedule
-  pub one : (s t : List ℕ) (h : Schedule) → read_file s ≡ sound h → read_file t ≡ sound h → s ≡ t
+  pub one : (s t : List ℕ) (h : Schedule) → read_file s ≡ Ok h → read_file t ≡ Ok h → s ≡ t
   -- "Too long a file is refused before any line is read." Any other that is refused is so for its first fault
-  pub long : (s : List ℕ) → longest < length s → read_file s ≡ faulty too_long
-  pub first : (s : List ℕ) (f : Fault) → length s ≤ longest → read_file s ≡ faulty f → FirstFault s f
+  pub long : (s : List ℕ) → longest < length s → read_file s ≡ Err too_long
+  pub first : (s : List ℕ) (f : Fault) → length s ≤ longest → read_file s ≡ Err f → FirstFault s f

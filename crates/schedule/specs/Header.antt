@@ -1,12 +1,10 @@
 -- Document 01, "The schedule file and the report": "Sections in a fixed order, each after its count". What stands at a place of a file as a fixed word and as a section's
 -- first line. Assumes nothing.
-use Rattle.std.specs.Prelude.{false, List, [], ◌∷◌, ◌++◌, ℕ, ◌+◌, eqb, ltb, length, get_or}
+use Rattle.std.specs.Prelude.{false, List, [], ◌∷◌, ◌++◌, ℕ, ◌+◌, eqb, ltb, length, get_or, Result, Ok, Err}
 use Rattle.text.specs.Number.{pick}
 use Rattle.schedule.specs.Line.{spaced, ending, closed, spaced_at}
-use Rattle.text.specs.declared.number.Number.{Number}
-use Rattle.text.specs.declared.number.Number.TheVariants.{Bad}
-use Rattle.schedule.specs.declared.header.Word.{Word}
-use Rattle.schedule.specs.declared.header.Word.TheVariants.{Missing, Past}
+use Rattle.text.specs.Read.{Read, bad}
+use Rattle.text.specs.declared.number.Broken.{Broken}
 
 -- the section words: `VALUES`, `WARMUP`, `MEASURED`
 abbrev pub values_word : List ℕ
@@ -26,18 +24,18 @@ header_of w n = w ++ spaced n (ending false)
 abbrev pub count_at : ℕ → List ℕ → ℕ
 count_at at w = at + length w + 1
 
-abbrev pub on_word : {A : Type 0} → Word → (ℕ → A) → (ℕ → A) → A
-on_word (Missing p) z f = z p
-on_word (Past n) z f = f n
+abbrev pub on_word : {A : Type 0} → Result ℕ Broken → (ℕ → Read A) → Read A
+on_word (Err e) f = Err e
+on_word (Ok n) f = f n
 
--- a word, byte by byte
-unfoldable pub word_at : List ℕ → ℕ → List ℕ → Word
-word_at s at [] = Past at
-word_at s at (b ∷ w) = pick (ltb at (length s)) (pick (eqb (get_or s at 0) b) (word_at s (at + 1) w) (Missing at)) (Missing at)
+-- a word, byte by byte: the place after it, or the place of the first byte that is not the word's
+unfoldable pub word_at : List ℕ → ℕ → List ℕ → Result ℕ Broken
+word_at s at [] = Ok at
+word_at s at (b ∷ w) = pick (ltb at (length s)) (pick (eqb (get_or s at 0) b) (word_at s (at + 1) w) (bad at)) (bad at)
 
 -- a space, a number and LF
-unfoldable pub alone_at : List ℕ → ℕ → Number
+unfoldable pub alone_at : List ℕ → ℕ → Read ℕ
 alone_at s at = closed s (spaced_at s at)
 
-unfoldable pub header_at : List ℕ → ℕ → List ℕ → Number
-header_at s at w = on_word (word_at s at w) Bad (λ n. alone_at s n)
+unfoldable pub header_at : List ℕ → ℕ → List ℕ → Read ℕ
+header_at s at w = on_word (word_at s at w) (alone_at s)

@@ -17,4 +17,5 @@ pub mod Run
 -- what holds of every sound file
 pub mod Promise
 -- for the contracts of private functions alone
+pub mod Ahead
 pub mod Private

@@ -1,16 +1,13 @@
 -- Document 01, "The schedule file and the report": "The step letter decides which numbers follow". What stands at a place of a file as a step line, and how a step
 -- is spelled. Assumes nothing.
-use Rattle.std.specs.Prelude.{Bool, true, false, List, [], ◌∷◌, ◌++◌, ℕ, ◌+◌, ◌≤◌, eqb, ltb, get_or}
+use Rattle.std.specs.Prelude.{Bool, true, false, List, [], ◌∷◌, ◌++◌, ℕ, ◌+◌, ◌≤◌, eqb, ltb, get_or, Option, Some, None, Ok}
 use Rattle.rules.specs.declared.step.Step.{Step}
 use Rattle.rules.specs.declared.step.Step.TheVariants.{DeliverE, DeliverS, DeliverF, DeliverDecision, Suspect, Pause, Crash, Recover}
 use Rattle.rules.specs.Kinds.{numbers_of, round_of}
 use Rattle.text.specs.Number.{pick, most, number_at, spelled}
-use Rattle.schedule.specs.Lines.{Every, Item, broken, item}
-use Rattle.text.specs.declared.number.Number.{Number}
-use Rattle.text.specs.declared.number.Number.TheVariants.{Bad, Value}
-use Rattle.schedule.specs.declared.line.End.{End}
-use Rattle.schedule.specs.declared.line.End.TheVariants.{NoEnd, Ends}
-use Rattle.schedule.specs.declared.line.Line.{Line}
+use Rattle.text.specs.Read.{Read, bad, on_read}
+use Rattle.schedule.specs.Lines.{Every}
+use Rattle.schedule.specs.declared.letter.Letter.{Letter}
 
 -- ---- the bytes of a step line, each once
 
@@ -80,86 +77,95 @@ Holdable s = Every Small (numbers_of s) × Small (round_of s)
 
 -- ---- how it is read
 
--- how many numbers follow a letter. "Any other letter is refusal 9": none do
-unfoldable pub numbers_after : ℕ → ℕ
-numbers_after b =
-    pick (eqb b letter_e) 3
-    (pick (eqb b letter_s) 3
-    (pick (eqb b letter_f) 3
-    (pick (eqb b letter_z) 2
-    (pick (eqb b letter_q) 1
-    (pick (eqb b letter_p) 1
-    (pick (eqb b letter_c) 1
-    (pick (eqb b letter_r) 1
-    0)))))))
+-- the step letter of a byte. "Any other letter is refusal 9"
+unfoldable pub letter_of : ℕ → Option Letter
+letter_of b =
+    pick (eqb b letter_e) (Some Letter.E)
+    (pick (eqb b letter_s) (Some Letter.S)
+    (pick (eqb b letter_f) (Some Letter.F)
+    (pick (eqb b letter_z) (Some Letter.Z)
+    (pick (eqb b letter_q) (Some Letter.Q)
+    (pick (eqb b letter_p) (Some Letter.P)
+    (pick (eqb b letter_c) (Some Letter.C)
+    (pick (eqb b letter_r) (Some Letter.R)
+    None)))))))
+
+-- how many numbers follow a letter
+unfoldable pub numbers_after : Letter → ℕ
+numbers_after Letter.E = 3
+numbers_after Letter.S = 3
+numbers_after Letter.F = 3
+numbers_after Letter.Z = 2
+numbers_after Letter.Q = 1
+numbers_after Letter.P = 1
+numbers_after Letter.C = 1
+numbers_after Letter.R = 1
 
 -- whether the step of a letter may be cut
-unfoldable pub may_cut : ℕ → Bool
-may_cut b = pick (eqb b letter_p) false (pick (eqb b letter_c) false (pick (eqb b letter_r) false true))
+unfoldable pub may_cut : Letter → Bool
+may_cut Letter.E = true
+may_cut Letter.S = true
+may_cut Letter.F = true
+may_cut Letter.Z = true
+may_cut Letter.Q = true
+may_cut Letter.P = false
+may_cut Letter.C = false
+may_cut Letter.R = false
 
 -- the step of a letter with its numbers
-unfoldable pub step_of : ℕ → ℕ → ℕ → ℕ → Bool → Step
-step_of b i j r x =
-    pick (eqb b letter_e) (DeliverE i j r x)
-    (pick (eqb b letter_s) (DeliverS i j r x)
-    (pick (eqb b letter_f) (DeliverF i j r x)
-    (pick (eqb b letter_z) (DeliverDecision i j x)
-    (pick (eqb b letter_q) (Suspect i x)
-    (pick (eqb b letter_p) (Pause i)
-    (pick (eqb b letter_c) (Crash i)
-    (Recover i)))))))
+unfoldable pub step_of : Letter → ℕ → ℕ → ℕ → Bool → Step
+step_of Letter.E i j r x = DeliverE i j r x
+step_of Letter.S i j r x = DeliverS i j r x
+step_of Letter.F i j r x = DeliverF i j r x
+step_of Letter.Z i j r x = DeliverDecision i j x
+step_of Letter.Q i j r x = Suspect i x
+step_of Letter.P i j r x = Pause i
+step_of Letter.C i j r x = Crash i
+step_of Letter.R i j r x = Recover i
 
 -- Request 2026-01: "The byte is the first that no line of the form asked for there has after the bytes before it, the LF included." Whatever is read answers the place of that
--- byte where it breaks the form. Going on after a number, or after a line's end: what a bad one gives, and what it gives where it is there
-abbrev pub on_number : {A : Type 0} → Number → (ℕ → A) → (ℕ → ℕ → A) → A
-on_number (Bad p) z f = z p
-on_number (Value v n) z f = f v n
-
-abbrev pub on_end : {A : Type 0} → End → (ℕ → A) → (Bool → ℕ → A) → A
-on_end (NoEnd p) z f = z p
-on_end (Ends x n) z f = f x n
+-- byte where it breaks the form
 
 -- a number that ends its line: LF stands behind it
-unfoldable pub closed : List ℕ → Number → Number
-closed s r = on_number r Bad (λ v n. pick (eqb (get_or s n 0) line_feed) (Value v (n + 1)) (Bad n))
+unfoldable pub closed : List ℕ → Read ℕ → Read ℕ
+closed s r = on_read r bad (λ v n. pick (eqb (get_or s n 0) line_feed) (Ok (v, n + 1)) (bad n))
 
 -- a space and a number
-unfoldable pub spaced_at : List ℕ → ℕ → Number
-spaced_at s at = pick (eqb (get_or s at 0) space_byte) (number_at s (at + 1)) (Bad at)
+unfoldable pub spaced_at : List ℕ → ℕ → Read ℕ
+spaced_at s at = pick (eqb (get_or s at 0) space_byte) (number_at s (at + 1)) (bad at)
 
 -- the same where one more number is wanted
-unfoldable pub next_number : List ℕ → ℕ → Bool → Number
-next_number s at wanted = pick wanted (spaced_at s at) (Value 0 at)
+unfoldable pub next_number : List ℕ → ℕ → Bool → Read ℕ
+next_number s at wanted = pick wanted (spaced_at s at) (Ok (0, at))
 
 -- LF, or ` X` and LF where the step may be cut
-unfoldable pub end_at : List ℕ → ℕ → Bool → End
+unfoldable pub end_at : List ℕ → ℕ → Bool → Read Bool
 end_at s at may =
-    pick (eqb (get_or s at 0) line_feed) (Ends false (at + 1))
+    pick (eqb (get_or s at 0) line_feed) (Ok (false, at + 1))
     (pick may
     (pick (eqb (get_or s at 0) space_byte)
     (pick (eqb (get_or s (at + 1) 0) letter_x)
-    (pick (eqb (get_or s (at + 2) 0) line_feed) (Ends true (at + 3)) (NoEnd (at + 2)))
-    (NoEnd (at + 1)))
-    (NoEnd at))
-    (NoEnd at))
+    (pick (eqb (get_or s (at + 2) 0) line_feed) (Ok (true, at + 3)) (bad (at + 2)))
+    (bad (at + 1)))
+    (bad at))
+    (bad at))
 
 -- the line of a letter and its numbers, which end at a place
-unfoldable pub ended_at : ℕ → ℕ → ℕ → ℕ → List ℕ → ℕ → Item Step
-ended_at b i j r s at = on_end (end_at s at (may_cut b)) broken (λ x e. item (step_of b i j r x) e)
+unfoldable pub ended_at : Letter → ℕ → ℕ → ℕ → List ℕ → ℕ → Read Step
+ended_at b i j r s at = on_read (end_at s at (may_cut b)) bad (λ x e. Ok (step_of b i j r x, e))
 
 -- what follows the letter b
-unfoldable pub after_letter : ℕ → List ℕ → ℕ → Item Step
+unfoldable pub after_letter : Letter → List ℕ → ℕ → Read Step
 after_letter b s at =
-    on_number (next_number s at true) broken
-    (λ i n. on_number (next_number s n (ltb 1 (numbers_after b))) broken
-    (λ j m. on_number (next_number s m (ltb 2 (numbers_after b))) broken
+    on_read (next_number s at true) bad
+    (λ i n. on_read (next_number s n (ltb 1 (numbers_after b))) bad
+    (λ j m. on_read (next_number s m (ltb 2 (numbers_after b))) bad
     (λ r l. ended_at b i j r s l)))
 
--- the step line at a place
-unfoldable pub line_at : List ℕ → ℕ → Item Step
-line_at s at = pick (eqb (numbers_after (get_or s at 0)) 0) (broken at) (after_letter (get_or s at 0) s (at + 1))
+abbrev pub on_letter : {A : Type 0} → Option Letter → A → (Letter → A) → A
+on_letter None z f = z
+on_letter (Some b) z f = f b
 
--- the same, as the code answers it
-unfoldable pub as_line : Item Step → Line
-as_line (broken p) = Line.Bad p
-as_line (item x m) = Line.Good x m
+-- the step line at a place
+unfoldable pub line_at : List ℕ → ℕ → Read Step
+line_at s at = on_letter (letter_of (get_or s at 0)) (bad at) (λ b. after_letter b s (at + 1))

@@ -1,5 +1,5 @@
 -- What the parts of the reader and of the run ask and yield, for the contracts of the private functions. No public contract cites this page: a reader may skip it. Assumes nothing.
-use Rattle.std.specs.Prelude.{◌≡◌, Bool, true, false, List, [], ◌∷◌, ◌≢◌, ℕ, ◌+◌, ◌-◌, ◌*◌, ◌≤◌, ◌<◌, eqb, length, get_or, take}
+use Rattle.std.specs.Prelude.{◌≡◌, Bool, List, [], ◌∷◌, ◌≢◌, ℕ, ◌+◌, ◌-◌, ◌*◌, ◌≤◌, ◌<◌, length, get_or, take, Result, Ok, Err}
 use Rattle.rules.specs.Limits.{greatest_size}
 use Rattle.rules.specs.Layout.{Sized}
 use Rattle.rules.specs.Tally.{bit_of}
@@ -9,68 +9,39 @@ use Rattle.rules.specs.Run.{State, after}
 use Rattle.rules.specs.declared.group.Group.{Group}
 use Rattle.rules.specs.declared.step.Step.{Step}
 use Rattle.schedule.specs.Limits.{most_steps}
-use Rattle.text.specs.Number.{pick, number_at}
-use Rattle.schedule.specs.Lines.{Item, broken, item, Items, broken_at, items, lines_at}
+use Rattle.text.specs.Number.{number_at}
+use Rattle.text.specs.Read.{Read}
+use Rattle.text.specs.declared.number.Broken.{Broken}
+use Rattle.schedule.specs.Lines.{Rows, lines_at}
 use Rattle.schedule.specs.Line.{next_number, line_at}
-use Rattle.schedule.specs.Schedule.{Schedule, faulty, sound, values_from, warmup_from, read_file, part_at, no_part, part, no_fault}
+use Rattle.schedule.specs.Schedule.{Schedule, values_from, warmup_from, read_file, part_at}
 use Rattle.schedule.specs.Run.{counts_of, ran_over, run_by}
-use Rattle.text.specs.declared.number.Number.{Number}
-use Rattle.schedule.specs.declared.line.End.{End}
-use Rattle.schedule.specs.declared.line.End.TheVariants.{NoEnd, Ends}
-use Rattle.schedule.specs.declared.line.Read.{Read}
-use Rattle.schedule.specs.declared.line.StepRead.{StepRead}
-use Rattle.schedule.specs.declared.section.Lines.{Lines}
-use Rattle.schedule.specs.declared.values.Values.{Values}
-use Rattle.schedule.specs.declared.part.Part.{Part as PartFound}
+use Rattle.schedule.specs.declared.fault.BrokenLine.{BrokenLine}
+use Rattle.schedule.specs.declared.fault.Fault.{Fault}
+use Rattle.schedule.specs.declared.part.Part.{Part}
 use Rattle.schedule.specs.declared.file.Opening.{Opening}
 use Rattle.schedule.specs.declared.file.Places.{Places}
-use Rattle.schedule.specs.declared.file.Sections.{Sections}
 use Rattle.schedule.specs.declared.file.Form.{Form}
 use Rattle.schedule.specs.declared.counts.Counts.{Counts}
 use Rattle.schedule.specs.declared.run.Ran.{Ran}
 
 -- ---- places
 
--- an LF stands at a place or ahead of it
-pub record Ahead (s : List ℕ) (at : ℕ) : Type 0 where
-  pub end : ℕ
-  pub low : at < end
-  pub high : end ≤ length s
-  pub lf : get_or s (end - 1) 0 ≡ 10
-
--- none does
-abbrev pub NoLf : List ℕ → ℕ → Type 0
-NoLf s at = (j : ℕ) → at ≤ j → get_or s j 0 ≢ 10
-
 -- end is the place after the last LF, 0 where there is none
 pub record LastLf (s : List ℕ) (end : ℕ) : Type 0 where
   pub high : end ≤ length s
   pub lf : 0 < end → get_or s (end - 1) 0 ≡ 10
-  pub none : NoLf s end
+  pub none : (j : ℕ) → end ≤ j → get_or s j 0 ≢ 10
 
--- the place after a line, after a line's end; 0 where the form is broken
-unfoldable pub place_after : Item Step → ℕ
-place_after (broken p) = 0
-place_after (item x m) = m
+-- what a reader read, and where it stands behind it
+unfoldable pub read_to : Result Step Broken → ℕ → Read Step
+read_to (Err broken) m = Err broken
+read_to (Ok st) m = Ok (st, m)
 
-unfoldable pub place_of_end : End → ℕ
-place_of_end (NoEnd p) = 0
-place_of_end (Ends x m) = m
-
--- where reading a line stops: where it breaks the form, or after it
-unfoldable pub stop_of : Item Step → ℕ
-stop_of (broken p) = p
-stop_of (item x m) = m
-
--- the place after some lines, or the first that breaks the form and where it begins
-unfoldable pub lines_end : {A : Type 0} → Items A → Lines
-lines_end (broken_at i from p) = Lines.Fault i from
-lines_end (items xs m) = Lines.Good m
-
--- a line's value as a number
-unfoldable pub number_of : Item ℕ → Number
-number_of (broken p) = Number.Bad p
-number_of (item v n) = Number.Value v n
+-- the place after some lines
+unfoldable pub rows_end : {A : Type 0} → Rows A → Result ℕ BrokenLine
+rows_end (Err broken) = Err broken
+rows_end (Ok (xs, m)) = Ok m
 
 -- ---- what is known to keep the form
 
@@ -78,46 +49,41 @@ number_of (item v n) = Number.Value v n
 pub record KnownNumber (s : List ℕ) (at : ℕ) : Type 0 where
   pub value : ℕ
   pub next : ℕ
-  pub is : number_at s at ≡ Number.Value value next
+  pub is : number_at s at ≡ Ok (value, next)
   pub inside : next < length s
 
 pub record KnownNext (s : List ℕ) (at : ℕ) (wanted : Bool) : Type 0 where
   pub value : ℕ
   pub next : ℕ
-  pub is : next_number s at wanted ≡ Number.Value value next
+  pub is : next_number s at wanted ≡ Ok (value, next)
   pub inside : next < length s
 
 pub record KnownLine (s : List ℕ) (at : ℕ) : Type 0 where
   pub step : Step
   pub next : ℕ
-  pub is : line_at s at ≡ item step next
-
-abbrev pub value_read : Read → Number
-value_read r = Number.Value r.value r.next
-
-abbrev pub line_read : StepRead → Item Step
-line_read t = item t.step t.next
+  pub is : line_at s at ≡ Ok (step, next)
 
 -- ---- the parts of a file
 
 -- what the values of n lines are, as they were read into an array
-unfoldable pub values_read : ℕ → Values → Items ℕ
-values_read n r = pick (eqb r.read n) (items (take n r.values) r.next) (broken_at r.read r.next r.stop)
+unfoldable pub values_read : ℕ → Result (List ℕ × ℕ) BrokenLine → Rows ℕ
+values_read n (Err broken) = Err broken
+values_read n (Ok (vs, m)) = Ok (take n vs, m)
 
 -- some steps whose lines stand from one place up to another
 pub record StepsAt (s : List ℕ) (count at m : ℕ) (ss : List Step) : Type 0 where
-  pub are : lines_at (line_at s) count 0 at ≡ items ss m
+  pub are : lines_at (line_at s) count 0 at ≡ Ok (ss, m)
   pub long : length ss ≡ count
 
 pub record PartGood (s : List ℕ) (at : ℕ) (w : List ℕ) (line left k a m : ℕ) : Type 0 where
   pub steps : List Step
   pub are : StepsAt s k a m steps
   pub few : k ≤ left
-  pub is : part_at s at w line left ≡ part steps m
+  pub is : part_at s at w line left ≡ Ok (steps, m)
 
-unfoldable pub PartIs : List ℕ → ℕ → List ℕ → ℕ → ℕ → PartFound → Type 0
-PartIs s at w line left (PartFound.Bad f) = (1 ≤ f.number) × (part_at s at w line left ≡ no_part f)
-PartIs s at w line left (PartFound.Good k a m) = PartGood s at w line left k a m
+unfoldable pub PartIs : List ℕ → ℕ → List ℕ → ℕ → ℕ → Result Part Fault → Type 0
+PartIs s at w line left (Err f) = part_at s at w line left ≡ Err f
+PartIs s at w line left (Ok p) = PartGood s at w line left p.count p.start p.end
 
 -- the opening of a file: whatever is read of it begins so
 pub record OpeningGood (s : List ℕ) (n : ℕ) (vs : List ℕ) (at : ℕ) : Type 0 where
@@ -126,12 +92,9 @@ pub record OpeningGood (s : List ℕ) (n : ℕ) (vs : List ℕ) (at : ℕ) : Typ
   pub within : at ≤ length s
   pub is : values_from s ≡ warmup_from s (take n vs) at
 
-unfoldable pub OpeningIs : Bool → List ℕ → Opening → Type 0
-OpeningIs true s o = OpeningGood s o.n o.values o.at
-OpeningIs false s o = values_from s ≡ faulty o.fault
-
-unfoldable pub ValuesAre : List ℕ → Opening → Type 0
-ValuesAre s o = OpeningIs (eqb o.fault.number 0) s o
+unfoldable pub ValuesAre : List ℕ → Result Opening Fault → Type 0
+ValuesAre s (Err f) = values_from s ≡ Err f
+ValuesAre s (Ok o) = OpeningGood s o.n o.values o.at
 
 -- the two sections of steps behind n values
 pub record SectionsGood (s : List ℕ) (n at : ℕ) (p : Places) : Type 0 where
@@ -142,11 +105,11 @@ pub record SectionsGood (s : List ℕ) (n at : ℕ) (p : Places) : Type 0 where
   pub warmup-are : StepsAt s p.warmup p.start warmup-end warmup
   pub measured-are : StepsAt s p.measured p.middle measured-end measured
   pub few : p.warmup + p.measured ≤ most_steps
-  pub is : (vs : List ℕ) → length vs ≡ n → warmup_from s vs at ≡ sound (record { values = vs; warmup = warmup; measured = measured })
+  pub is : (vs : List ℕ) → length vs ≡ n → warmup_from s vs at ≡ Ok (record { values = vs; warmup = warmup; measured = measured })
 
-unfoldable pub StepsAre : List ℕ → ℕ → ℕ → Sections → Type 0
-StepsAre s n at (Sections.Bad f) = (1 ≤ f.number) × ((vs : List ℕ) → length vs ≡ n → warmup_from s vs at ≡ faulty f)
-StepsAre s n at (Sections.Good p) = SectionsGood s n at p
+unfoldable pub StepsAre : List ℕ → ℕ → ℕ → Result Places Fault → Type 0
+StepsAre s n at (Err f) = (vs : List ℕ) → length vs ≡ n → warmup_from s vs at ≡ Err f
+StepsAre s n at (Ok p) = SectionsGood s n at p
 
 -- a sound file: its schedule, and where the steps stand
 pub record FormGood (s : List ℕ) (n : ℕ) (vs : List ℕ) (p : Places) : Type 0 where
@@ -159,14 +122,11 @@ pub record FormGood (s : List ℕ) (n : ℕ) (vs : List ℕ) (p : Places) : Type
   pub warmup-are : StepsAt s p.warmup p.start warmup-end warmup
   pub measured-are : StepsAt s p.measured p.middle measured-end measured
   pub few : p.warmup + p.measured ≤ most_steps
-  pub is : read_file s ≡ sound (record { values = take n vs; warmup = warmup; measured = measured })
+  pub is : read_file s ≡ Ok (record { values = take n vs; warmup = warmup; measured = measured })
 
-unfoldable pub FormCase : Bool → List ℕ → Form → Type 0
-FormCase true s r = FormGood s r.n r.values r.places
-FormCase false s r = read_file s ≡ faulty r.fault
-
-unfoldable pub FormIs : List ℕ → Form → Type 0
-FormIs s r = FormCase (eqb r.fault.number 0) s r
+unfoldable pub FormIs : List ℕ → Result Form Fault → Type 0
+FormIs s (Err f) = read_file s ≡ Err f
+FormIs s (Ok r) = FormGood s r.n r.values r.places
 
 -- ---- the run
 
@@ -234,7 +194,6 @@ pub record BothReady (s : List ℕ) (p : Places) (g : Group) (l d : List ℕ) : 
   pub few : p.warmup + p.measured ≤ most_steps
 
 pub record RanBoth (ws ms : List Step) (g : Group) (l d : List ℕ) (r : Ran) (l' d' : List ℕ) : Type 0 where
-  pub fault : r.fault ≡ no_fault
   pub warmup : r.warmup ≡ counts_of (state_with g l d) ws
   pub measured : r.measured ≡ counts_of (after (state_with g l d) ws) ms
   pub state : state_with r.group l' d' ≡ after (after (state_with g l d) ws) ms
@@ -244,4 +203,4 @@ BothRan s p g l d r l' d' = (ws ms : List Step) (a b : ℕ) → StepsAt s p.warm
 
 -- a sound file's run
 abbrev pub SoundRan : List ℕ → List ℕ → List ℕ → Ran → List ℕ → List ℕ → Type 0
-SoundRan s l d r l' d' = (h : Schedule) → read_file s ≡ sound h → ran_over r l' d' ≡ run_by (sound h) l d
+SoundRan s l d r l' d' = (h : Schedule) → read_file s ≡ Ok h → ran_over (Ok r) l' d' ≡ run_by (Ok h) l d

@@ -1,11 +1,10 @@
 -- The run of a schedule file: the rules' run over the steps that were read, with the counts of its two sections. Assumes nothing.
-use Rattle.std.specs.Prelude.{List, ℕ}
+use Rattle.std.specs.Prelude.{List, ℕ, Result, Ok, Err}
 use Rattle.rules.specs.declared.step.Step.{Step}
 use Rattle.rules.specs.Run.{State, start_state, after, answers}
-use Rattle.schedule.specs.Schedule.{Schedule, Reading, faulty, sound, read_file, no_fault}
-use Rattle.rules.specs.Layout.{blank_group}
+use Rattle.schedule.specs.Schedule.{Schedule, Reading, read_file}
 use Rattle.schedule.specs.declared.fault.Fault.{Fault}
-use Rattle.schedule.specs.Counts.{none, counts_in}
+use Rattle.schedule.specs.Counts.{counts_in}
 use Rattle.schedule.specs.declared.counts.Counts.{Counts}
 use Rattle.schedule.specs.declared.run.Ran.{Ran}
 
@@ -15,11 +14,11 @@ counts_of a ss = counts_in (answers a ss)
 
 -- all that a run yields: what is answered, and the content of the lent store and of the lent depths
 pub record RanOver : Type 0 where
-  pub ran : Ran
+  pub ran : Result Ran Fault
   pub store : List ℕ
   pub depths : List ℕ
 
-abbrev pub ran_over : Ran → List ℕ → List ℕ → RanOver
+abbrev pub ran_over : Result Ran Fault → List ℕ → List ℕ → RanOver
 ran_over r l d = record { ran = r; store = l; depths = d }
 
 -- the start, the state between the two sections, and the end
@@ -32,24 +31,19 @@ between h l d = after (begins h l d) h.warmup
 abbrev pub at_end : Schedule → List ℕ → List ℕ → State
 at_end h l d = after (between h l d) h.measured
 
--- what is answered to a sound file: no fault, the counts of its two sections, and the group at the end
+-- what is answered to a sound file: the counts of its two sections, and the group at the end
 unfoldable pub has_run : Schedule → List ℕ → List ℕ → Ran
 has_run h l d =
     record {
-      fault = no_fault;
       warmup = counts_of (begins h l d) h.warmup;
       measured = counts_of (between h l d) h.measured;
       group = (at_end h l d).group;
     }
 
--- and to a faulty one: the fault, no counts, and a group of size 0
-unfoldable pub not_run : Fault → Ran
-not_run f = record { fault = f; warmup = none; measured = none; group = blank_group 0 }
-
--- "no step is run" where the file is faulty
+-- and to a faulty one: its fault. "no step is run" there
 unfoldable pub run_by : Reading → List ℕ → List ℕ → RanOver
-run_by (faulty f) l d = ran_over (not_run f) l d
-run_by (sound h) l d = ran_over (has_run h l d) (at_end h l d).store (at_end h l d).depths
+run_by (Err f) l d = ran_over (Err f) l d
+run_by (Ok h) l d = ran_over (Ok (has_run h l d)) (at_end h l d).store (at_end h l d).depths
 
 unfoldable pub run_of : List ℕ → List ℕ → List ℕ → RanOver
 run_of s l d = run_by (read_file s) l d

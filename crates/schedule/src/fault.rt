@@ -1,39 +1,59 @@
 // The fault of a file: what is wrong with it, and where.
 // A file has at most one: the first that reading it meets.
-ghost use Rattle.std.specs.Prelude.{◌≡◌, ◌≤◌};
+ghost use Rattle.std.specs.Prelude.{◌≡◌, ◌+◌, ◌≤◌, ◌<◌, ◌^◌};
 ghost use Rattle.schedule.specs.Limits.{longest};
-ghost use Rattle.schedule.specs.Schedule.{fault_at, no_fault};
+ghost use Rattle.schedule.specs.Schedule.{number_of, fault_at, line_fault};
 
-// Where a file is faulty: the refusal's number, the line and the column, both counted from 1; a file that is too long has line 0 and column 0.
-// Number 0 says that the file has no fault.
-#[derive(Clone, Copy)]
+// What is wrong with a file, with the refusal's number: not 1 to 16 values, a line that breaks the form, too many bytes or steps.
+#[derive(Clone, Copy, PartialEq, Eq, Debug)]
+pub enum Flaw {
+    Values = 1,
+    Form = 9,
+    Size = 10,
+}
+
+impl Flaw {
+    // The refusal's number.
+    pub fn number(self) -> u8
+        ensures { result ≡ number_of self }
+    {
+        self as u8
+    }
+}
+
+// What is wrong with a file, and the line and the column, both counted from 1; a file that is too long has line 0 and column 0.
+#[derive(Clone, Copy, PartialEq, Eq, Debug)]
 pub struct Fault {
-    pub number: u8,
+    pub flaw: Flaw,
     pub line: u32,
     pub column: u32,
 }
 
 impl Fault {
-    pub(crate) fn none() -> Fault
-        ensures { result ≡ no_fault }
-    {
-        Fault {
-            number: 0,
-            line: 0,
-            column: 0,
-        }
-    }
-
     // A fault at a place of the line that begins at the place from. No column is worked out anywhere else.
-    pub(crate) fn at(number: u8, line: u32, from: usize, place: usize) -> Fault
+    pub(crate) fn at(flaw: Flaw, line: u32, from: usize, place: usize) -> Fault
         requires { (from ≤ place) × (place ≤ longest) }
-        ensures { result ≡ fault_at number line from place }
+        ensures { result ≡ fault_at flaw line from place }
     {
         let column = (place - from + 1) as u32;
-        Fault {
-            number,
-            line,
-            column,
-        }
+        Fault { flaw, line, column }
+    }
+}
+
+// Of some lines the first that breaks the form: which it is, counted from 0, where it begins, and where it breaks the form.
+#[derive(Clone, Copy, PartialEq, Eq, Debug)]
+pub(crate) struct BrokenLine {
+    pub index: u32,
+    pub from: usize,
+    pub place: usize,
+}
+
+impl BrokenLine {
+    // Its fault, where the first of the lines is the file's line-th.
+    pub(crate) fn fault(self, line: u32) -> Fault
+        requires { (line + self.index < 2 ^ 32) × (self.from ≤ self.place) × (self.place ≤ longest) }
+        ensures { result ≡ line_fault line self }
+    {
+        Fault::at(Flaw::Form, line + self.index, self.from, self.place)
     }
 }

@@ -5,13 +5,12 @@ ghost use Rattle.rules.specs.Limits.{greatest_size, among};
 ghost use Rattle.schedule.specs.Limits as limits;
 ghost use Rattle.schedule.specs.Private.{LastLf, ValuesAre, StepsAre, FormIs};
 
-use crate::fault::Fault;
+use crate::fault::{Fault, Flaw};
 use crate::header::{count_fault, heading};
 use crate::lf::last_end;
-use crate::part::{Part, part_at};
+use crate::part::part_at;
 use crate::values::read_values;
 use rules::group::Group;
-use text::number::Number;
 
 // The limits of a file.
 #[derive(Clone, Copy)]
@@ -37,10 +36,9 @@ impl File {
     }
 }
 
-// The values of a file and the place of its WARMUP line, or its first fault up to there.
+// The values of a file and the place of its WARMUP line.
 #[derive(Clone, Copy)]
 pub(crate) struct Opening {
-    pub fault: Fault,
     pub n: u32,
     pub values: [u32; Group::GREATEST],
     pub at: usize,
@@ -55,51 +53,12 @@ pub(crate) struct Places {
     pub middle: usize,
 }
 
-#[derive(Clone, Copy)]
-pub(crate) enum Sections {
-    Bad(Fault),
-    Good(Places),
-}
-
-// A sound file's values, and where its steps stand; or the file's fault.
+// A sound file's values, and where its steps stand.
 #[derive(Clone, Copy)]
 pub(crate) struct Form {
-    pub fault: Fault,
     pub n: u32,
     pub values: [u32; Group::GREATEST],
     pub places: Places,
-}
-
-// An opening with a fault.
-pub(crate) fn no_opening(fault: Fault) -> Opening
-    ensures { result.fault ≡ fault }
-{
-    let values = [0; Group::GREATEST];
-    Opening {
-        fault: fault,
-        n: 0,
-        values: values,
-        at: 0,
-    }
-}
-
-// A form with a fault.
-pub(crate) fn no_form(fault: Fault) -> Form
-    ensures { result.fault ≡ fault }
-{
-    let values = [0; Group::GREATEST];
-    let places = Places {
-        warmup: 0,
-        start: 0,
-        measured: 0,
-        middle: 0,
-    };
-    Form {
-        fault: fault,
-        n: 0,
-        values: values,
-        places: places,
-    }
 }
 
 // Whether a file may have this many values.
@@ -110,88 +69,60 @@ pub(crate) fn is_size(n: u32) -> bool
 }
 
 // The VALUES section.
-pub(crate) fn read_opening(s: &[u8]) -> Opening
+pub(crate) fn read_opening(s: &[u8]) -> Result<Opening, Fault>
     requires { length s.now ≤ limits.longest }
     ensures { ValuesAre s.now result }
 {
-    match heading(s, 0, b"VALUES") {
-        Number::Value(n, first) => {
-            if !is_size(n) {
-                return no_opening(count_fault(1, 1, 0, b"VALUES"));
-            }
-            let got = read_values(s, first, n as usize);
-            if got.read < n as usize {
-                return no_opening(Fault::at(9, 2 + got.read as u32, got.next, got.stop));
-            }
-            let fault = Fault::none();
-            let values = got.values;
-            let at = got.next;
-            Opening {
-                fault,
-                n,
-                values,
-                at,
-            }
-        }
-        Number::Bad(place) => no_opening(Fault::at(9, 1, 0, place)),
+    let (n, first) = match heading(s, 0, b"VALUES") {
+        Ok(header) => header,
+        Err(broken) => return Err(Fault::at(Flaw::Form, 1, 0, broken.place)),
+    };
+    if !is_size(n) {
+        return Err(count_fault(Flaw::Values, 1, 0, b"VALUES"));
     }
+    let (values, at) = match read_values(s, first, n as usize) {
+        Ok(read) => read,
+        Err(broken) => return Err(broken.fault(2)),
+    };
+    Ok(Opening { n, values, at })
 }
 
 // The WARMUP and MEASURED sections from a place on, behind n value lines, to the end of the file.
-pub(crate) fn read_sections(s: &[u8], end: usize, n: u32, at: usize) -> Sections
+pub(crate) fn read_sections(s: &[u8], end: usize, n: u32, at: usize) -> Result<Places, Fault>
     requires { LastLf s.now end × (n ≤ greatest_size) × (at ≤ length s.now) × (length s.now ≤ limits.longest) }
     ensures { StepsAre s.now n at result }
 {
-    match part_at(s, at, end, b"WARMUP", n + 2, File::MOST_STEPS) {
-        Part::Good(warmup, warmup_at, warmup_end) => {
-            let line = n + warmup + 3;
-            let left = File::MOST_STEPS - warmup;
-            match part_at(s, warmup_end, end, b"MEASURED", line, left) {
-                Part::Good(measured, measured_at, measured_end) => {
-                    if measured_end != s.len() {
-                        let after = n + warmup + measured + 4;
-                        return Sections::Bad(Fault::at(9, after, measured_end, measured_end));
-                    }
-                    Sections::Good(Places {
-                        warmup: warmup,
-                        start: warmup_at,
-                        measured: measured,
-                        middle: measured_at,
-                    })
-                }
-                Part::Bad(fault) => Sections::Bad(fault),
-            }
-        }
-        Part::Bad(fault) => Sections::Bad(fault),
+    let warmup = part_at(s, at, end, b"WARMUP", n + 2, File::MOST_STEPS)?;
+    let line = n + warmup.count + 3;
+    let left = File::MOST_STEPS - warmup.count;
+    let measured = part_at(s, warmup.end, end, b"MEASURED", line, left)?;
+    if measured.end != s.len() {
+        let after = n + warmup.count + measured.count + 4;
+        return Err(Fault::at(Flaw::Form, after, measured.end, measured.end));
     }
+    Ok(Places {
+        warmup: warmup.count,
+        start: warmup.start,
+        measured: measured.count,
+        middle: measured.start,
+    })
 }
 
 // A file's values and places, or its fault. Too long a file is refused before any line is read.
-pub(crate) fn form_of(s: &[u8]) -> Form
+pub(crate) fn form_of(s: &[u8]) -> Result<Form, Fault>
     ensures { FormIs s.now result }
 {
     if File::LONGEST < s.len() {
-        return no_form(Fault {
-            number: 10,
+        return Err(Fault {
+            flaw: Flaw::Size,
             line: 0,
             column: 0,
         });
     }
-    let opening = read_opening(s);
-    let fault = opening.fault;
-    if fault.number != 0 {
-        return no_form(fault);
-    }
+    let opening = read_opening(s)?;
     let n = opening.n;
     let values = opening.values;
     let end = last_end(s);
-    match read_sections(s, end, n, opening.at) {
-        Sections::Good(places) => Form {
-            fault,
-            n,
-            values,
-            places,
-        },
-        Sections::Bad(fault) => no_form(fault),
-    }
+    let places = read_sections(s, end, n, opening.at)?;
+    Ok(Form { n, values, places })
 }

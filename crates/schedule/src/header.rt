@@ -5,58 +5,49 @@ ghost use Rattle.schedule.specs.Header.{word_at, alone_at, header_at, count_at};
 ghost use Rattle.schedule.specs.Limits.{longest};
 ghost use Rattle.schedule.specs.Schedule.{fault_at};
 
-use crate::fault::Fault;
+use crate::fault::{Fault, Flaw};
 use crate::line::spaced_at;
 use crate::number::closed;
-use text::number::Number;
+use text::look::Tested;
+use text::number::Broken;
 
 // The place after a word that stands at a place, or the place of the first byte that is not the word's.
-#[derive(Clone, Copy)]
-pub(crate) enum Word {
-    Missing(usize),
-    Past(usize),
-}
-
-pub(crate) fn word_at(s: &[u8], at: usize, word: &[u8]) -> Word
+pub(crate) fn word_at(s: &[u8], at: usize, word: &[u8]) -> Result<usize, Broken>
     ensures { result ≡ word_at s.now at word.now }
 {
-    let mut i = 0;
     let mut place = at;
-    while i < word.len() {
+    for byte in word {
         if place >= s.len() {
-            return Word::Missing(place);
+            return Err(Broken { place });
         }
-        if s[place] != word[i] {
-            return Word::Missing(place);
+        if s[place] != *byte {
+            return Err(Broken { place });
         }
         place += 1;
-        i += 1;
     }
-    Word::Past(place)
+    Ok(place)
 }
 
 // A space, a number and LF.
-pub(crate) fn alone_at(s: &[u8], at: usize) -> Number
+pub(crate) fn alone_at(s: &[u8], at: usize) -> Result<(u32, usize), Broken>
     ensures { result ≡ alone_at s.now at }
 {
-    let number = spaced_at(s, at);
+    let number = spaced_at::<Tested>(s, at);
     closed(s, number)
 }
 
 // A word and its count, to the end of the line: the count and the place after the line, or the place where the line breaks the form.
-pub fn heading(s: &[u8], at: usize, word: &[u8]) -> Number
+pub fn heading(s: &[u8], at: usize, word: &[u8]) -> Result<(u32, usize), Broken>
     ensures { result ≡ header_at s.now at word.now }
 {
-    match word_at(s, at, word) {
-        Word::Past(n) => alone_at(s, n),
-        Word::Missing(place) => Number::Bad(place),
-    }
+    let n = word_at(s, at, word)?;
+    alone_at(s, n)
 }
 
 // The fault of a count that the rules do not allow, in a header that begins at a place: it is at the count's first digit.
-pub(crate) fn count_fault(number: u8, line: u32, at: usize, word: &[u8]) -> Fault
+pub(crate) fn count_fault(flaw: Flaw, line: u32, at: usize, word: &[u8]) -> Fault
     requires { count_at at word.now ≤ longest }
-    ensures { result ≡ fault_at number line at (count_at at word.now) }
+    ensures { result ≡ fault_at flaw line at (count_at at word.now) }
 {
-    Fault::at(number, line, at, at + word.len() + 1)
+    Fault::at(flaw, line, at, at + word.len() + 1)
 }

@@ -6,6 +6,7 @@ pub mod counts;
 pub mod fault;
 pub mod file;
 pub mod header;
+mod letter;
 mod lf;
 pub mod line;
 mod number;

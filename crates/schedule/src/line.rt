@@ -2,276 +2,113 @@
 // Each function answers what the definition of a step line says of the bytes; the public one takes any place of any bytes.
 ghost use Rattle.std.specs.Prelude.{◌≡◌};
 ghost use Rattle.text.specs.Number.{number_at};
-ghost use Rattle.schedule.specs.Line.{numbers_after, may_cut, step_of, spaced_at, next_number, end_at, ended_at, line_at, as_line};
-ghost use Rattle.schedule.specs.Private.{Ahead, place_after, place_of_end, stop_of, KnownNumber, KnownNext, KnownLine, value_read, line_read};
+ghost use Rattle.schedule.specs.Line.{spaced_at, next_number, end_at, ended_at, line_at};
+ghost use Rattle.schedule.specs.Private.{KnownNumber, KnownNext, KnownLine};
 
-use crate::number::decimal_ahead;
+use crate::letter::Letter;
 use rules::step::Step;
-use text::number::{Number, byte_at, decimal, is_digit};
+use text::look::{Look, Tested};
+use text::number::{Broken, decimal_by, is_digit};
 
-// How many numbers follow a step letter; 0 for any other letter.
-pub(crate) fn numbers_after(letter: u8) -> u8
-    ensures { result ≡ numbers_after letter }
-{
-    match letter {
-        b'E' => 3,
-        b'S' => 3,
-        b'F' => 3,
-        b'Z' => 2,
-        b'Q' => 1,
-        b'P' => 1,
-        b'C' => 1,
-        b'R' => 1,
-        _ => 0,
-    }
-}
-
-// Whether the step of a letter may be cut.
-pub(crate) fn may_cut(letter: u8) -> bool
-    ensures { result ≡ may_cut letter }
-{
-    match letter {
-        b'P' => false,
-        b'C' => false,
-        b'R' => false,
-        _ => true,
-    }
-}
-
-// The step of a letter with its numbers.
-pub(crate) fn step_of(letter: u8, a: u32, b: u32, c: u32, cut: bool) -> Step
-    ensures { result ≡ step_of letter a b c cut }
-{
-    match letter {
-        b'E' => Step::DeliverE {
-            to: a,
-            from: b,
-            round: c,
-            cut: cut,
-        },
-        b'S' => Step::DeliverS {
-            to: a,
-            from: b,
-            round: c,
-            cut: cut,
-        },
-        b'F' => Step::DeliverF {
-            to: a,
-            from: b,
-            round: c,
-            cut: cut,
-        },
-        b'Z' => Step::DeliverDecision {
-            to: a,
-            from: b,
-            cut: cut,
-        },
-        b'Q' => Step::Suspect {
-            process: a,
-            cut: cut,
-        },
-        b'P' => Step::Pause { process: a },
-        b'C' => Step::Crash { process: a },
-        _ => Step::Recover { process: a },
-    }
-}
-
-// ---- any line: each part answers the place of the first byte that breaks the form, and what reads it hands that on
+// ---- any line, however its bytes are looked at: each part answers the place of the first byte that breaks the form, and what reads it hands that on
 
 // A space and a number.
-pub(crate) fn spaced_at(s: &[u8], at: usize) -> Number
+pub(crate) fn spaced_at<L: Look>(s: &[u8], at: usize) -> Result<(u32, usize), Broken>
+    requires { L.may s.now at }
     ensures { result ≡ spaced_at s.now at }
 {
-    if byte_at(s, at) == 32 {
-        decimal(s, at + 1)
+    if L::byte(s, at) == 32 {
+        decimal_by::<L>(s, at + 1)
     } else {
-        Number::Bad(at)
+        Err(Broken { place: at })
     }
 }
 
 // The same where one more number is wanted, and otherwise nothing read.
-pub(crate) fn next_number(s: &[u8], at: usize, wanted: bool) -> Number
+pub(crate) fn next_number<L: Look>(
+    s: &[u8],
+    at: usize,
+    wanted: bool,
+) -> Result<(u32, usize), Broken>
+    requires { L.may s.now at }
     ensures { result ≡ next_number s.now at wanted }
 {
     if wanted {
-        spaced_at(s, at)
+        spaced_at::<L>(s, at)
     } else {
-        Number::Value(0, at)
+        Ok((0, at))
     }
 }
 
 // A line's end, which is LF or, where the step may be cut, ` X` and LF: whether it is a cut and the place after it, or where it breaks the form.
-#[derive(Clone, Copy)]
-pub(crate) enum End {
-    NoEnd(usize),
-    Ends(bool, usize),
-}
-
-pub(crate) fn end_at(s: &[u8], at: usize, may: bool) -> End
+pub(crate) fn end_at<L: Look>(s: &[u8], at: usize, may: bool) -> Result<(bool, usize), Broken>
+    requires { L.may s.now at }
     ensures { result ≡ end_at s.now at may }
 {
-    let first = byte_at(s, at);
+    let first = L::byte(s, at);
     if first == 10 {
-        return End::Ends(false, at + 1);
+        return Ok((false, at + 1));
     }
     if !may {
-        return End::NoEnd(at);
+        return Err(Broken { place: at });
     }
     if first != 32 {
-        return End::NoEnd(at);
+        return Err(Broken { place: at });
     }
-    if byte_at(s, at + 1) != 88 {
-        return End::NoEnd(at + 1);
+    if L::byte(s, at + 1) != 88 {
+        return Err(Broken { place: at + 1 });
     }
-    if byte_at(s, at + 2) != 10 {
-        return End::NoEnd(at + 2);
+    if L::byte(s, at + 2) != 10 {
+        return Err(Broken { place: at + 2 });
     }
-    End::Ends(true, at + 3)
-}
-
-// A step and the place after its line, or the place where the line breaks the form.
-#[derive(Clone, Copy)]
-pub enum Line {
-    Bad(usize),
-    Good(Step, usize),
+    Ok((true, at + 3))
 }
 
 // The line of a letter and its numbers, which end at a place.
-pub(crate) fn ended_at(s: &[u8], at: usize, letter: u8, a: u32, b: u32, c: u32) -> Line
-    ensures { result ≡ as_line (ended_at letter a b c s.now at) }
+pub(crate) fn ended_at<L: Look>(
+    s: &[u8],
+    at: usize,
+    letter: Letter,
+    a: u32,
+    b: u32,
+    c: u32,
+) -> Result<(Step, usize), Broken>
+    requires { L.may s.now at }
+    ensures { result ≡ ended_at letter a b c s.now at }
 {
-    match end_at(s, at, may_cut(letter)) {
-        End::Ends(cut, next) => {
-            let step = step_of(letter, a, b, c, cut);
-            Line::Good(step, next)
-        }
-        End::NoEnd(place) => Line::Bad(place),
-    }
+    let (cut, next) = end_at::<L>(s, at, letter.may_cut())?;
+    let step = letter.step(a, b, c, cut);
+    Ok((step, next))
 }
 
-// What stands at a place as a step line.
-pub fn step_line(s: &[u8], at: usize) -> Line
-    ensures { result ≡ as_line (line_at s.now at) }
+// What stands at a place as a step line: the step and the place after its line, or the place where the line breaks the form.
+pub(crate) fn line_by<L: Look>(s: &[u8], at: usize) -> Result<(Step, usize), Broken>
+    requires { L.may s.now at }
+    ensures { result ≡ line_at s.now at }
 {
-    let letter = byte_at(s, at);
-    let count = numbers_after(letter);
-    if count == 0 {
-        return Line::Bad(at);
-    }
-    match spaced_at(s, at + 1) {
-        Number::Value(a, n) => match next_number(s, n, 1 < count) {
-            Number::Value(b, m) => match next_number(s, m, 2 < count) {
-                Number::Value(c, l) => ended_at(s, l, letter, a, b, c),
-                Number::Bad(place) => Line::Bad(place),
-            },
-            Number::Bad(place) => Line::Bad(place),
-        },
-        Number::Bad(place) => Line::Bad(place),
-    }
+    let Some(letter) = Letter::of(L::byte(s, at)) else {
+        return Err(Broken { place: at });
+    };
+    let count = letter.numbers();
+    let (a, n) = spaced_at::<L>(s, at + 1)?;
+    let (b, m) = next_number::<L>(s, n, 1 < count)?;
+    let (c, l) = next_number::<L>(s, m, 2 < count)?;
+    ended_at::<L>(s, l, letter, a, b, c)
 }
 
-// Where reading the step line at a place stops: where it breaks the form, or after it.
-pub(crate) fn line_stop(s: &[u8], at: usize) -> usize
-    ensures { result ≡ stop_of (line_at s.now at) }
+// The same at any place of any bytes.
+pub fn step_line(s: &[u8], at: usize) -> Result<(Step, usize), Broken>
+    ensures { result ≡ line_at s.now at }
 {
-    match step_line(s, at) {
-        Line::Good(_, next) => next,
-        Line::Bad(place) => place,
-    }
-}
-
-// ---- a line with an LF ahead of it, of which is asked only whether it keeps the form: no byte is tested for the file's end
-
-// A space and a number.
-pub(crate) fn spaced_ahead(s: &[u8], at: usize) -> Number
-    requires { Ahead s.now at }
-    ensures { result ≡ spaced_at s.now at }
-{
-    if s[at] == 32 {
-        decimal_ahead(s, at + 1)
-    } else {
-        Number::Bad(at)
-    }
-}
-
-// The same where one more number is wanted, and otherwise nothing read.
-pub(crate) fn next_ahead(s: &[u8], at: usize, wanted: bool) -> Number
-    requires { Ahead s.now at }
-    ensures { result ≡ next_number s.now at wanted }
-{
-    if wanted {
-        spaced_ahead(s, at)
-    } else {
-        Number::Value(0, at)
-    }
-}
-
-// The place after a line's end, which is LF or, where the step may be cut, ` X` and LF; 0 where neither stands here.
-pub(crate) fn end_ahead(s: &[u8], at: usize, may: bool) -> usize
-    requires { Ahead s.now at }
-    ensures { result ≡ place_of_end (end_at s.now at may) }
-{
-    let b = s[at];
-    if b == 10 {
-        return at + 1;
-    }
-    if !may {
-        return 0;
-    }
-    if b != 32 {
-        return 0;
-    }
-    if s[at + 1] != 88 {
-        return 0;
-    }
-    if s[at + 2] != 10 {
-        return 0;
-    }
-    at + 3
-}
-
-// The place after the step line at a place; 0 where the line breaks the form.
-pub(crate) fn line_end(s: &[u8], at: usize) -> usize
-    requires { Ahead s.now at }
-    ensures { result ≡ place_after (line_at s.now at) }
-{
-    let letter = s[at];
-    let count = numbers_after(letter);
-    if count == 0 {
-        return 0;
-    }
-    match spaced_ahead(s, at + 1) {
-        Number::Value(_, n) => match next_ahead(s, n, 1 < count) {
-            Number::Value(_, m) => match next_ahead(s, m, 2 < count) {
-                Number::Value(_, l) => end_ahead(s, l, may_cut(letter)),
-                Number::Bad(_) => 0,
-            },
-            Number::Bad(_) => 0,
-        },
-        Number::Bad(_) => 0,
-    }
+    line_by::<Tested>(s, at)
 }
 
 // ---- a line that is known to keep the form: nothing is tested again
 
-// A number and the place after it.
-#[derive(Clone, Copy)]
-pub(crate) struct Read {
-    pub value: u32,
-    pub next: usize,
-}
-
-// A step and the place after its line.
-#[derive(Clone, Copy)]
-pub(crate) struct StepRead {
-    pub step: Step,
-    pub next: usize,
-}
-
-// The number at a place.
-pub(crate) fn known_number(s: &[u8], at: usize) -> Read
+// The number at a place, and the place after it.
+pub(crate) fn known_number(s: &[u8], at: usize) -> (u32, usize)
     requires { KnownNumber s.now at }
-    ensures { number_at s.now at ≡ value_read result }
+    ensures { number_at s.now at ≡ Ok result }
 {
     let mut value: u32 = (s[at] - 48) as u32;
     let mut next = at + 1;
@@ -279,37 +116,33 @@ pub(crate) fn known_number(s: &[u8], at: usize) -> Read
         value = value * 10 + (s[next] - 48) as u32;
         next += 1;
     }
-    Read { value, next }
+    (value, next)
 }
 
 // The number behind a space where one more is wanted, and otherwise nothing read.
-pub(crate) fn known_next(s: &[u8], at: usize, wanted: bool) -> Read
+pub(crate) fn known_next(s: &[u8], at: usize, wanted: bool) -> (u32, usize)
     requires { KnownNext s.now at wanted }
-    ensures { next_number s.now at wanted ≡ value_read result }
+    ensures { next_number s.now at wanted ≡ Ok result }
 {
     if wanted {
         known_number(s, at + 1)
     } else {
-        Read { value: 0, next: at }
+        (0, at)
     }
 }
 
 // The step of the line at a place, and the place after it.
-pub(crate) fn known_line(s: &[u8], at: usize) -> StepRead
+pub(crate) fn known_line(s: &[u8], at: usize) -> (Step, usize)
     requires { KnownLine s.now at }
-    ensures { line_at s.now at ≡ line_read result }
+    ensures { line_at s.now at ≡ Ok result }
 {
-    let letter = s[at];
-    let count = numbers_after(letter);
-    let a = known_next(s, at + 1, true);
-    let first = a.value;
-    let b = known_next(s, a.next, 1 < count);
-    let second = b.value;
-    let c = known_next(s, b.next, 2 < count);
-    let third = c.value;
-    let end = c.next;
+    let letter = Letter::of(s[at]).unwrap();
+    let count = letter.numbers();
+    let (a, n) = known_next(s, at + 1, true);
+    let (b, m) = known_next(s, n, 1 < count);
+    let (c, end) = known_next(s, m, 2 < count);
     let cut = s[end] == 32;
-    let step = step_of(letter, first, second, third, cut);
+    let step = letter.step(a, b, c, cut);
     let next = if cut { end + 3 } else { end + 1 };
-    StepRead { step, next }
+    (step, next)
 }

@@ -1,10 +1,13 @@
-// The reader: the lent bytes of the file and a place in them. Each function over it is thin: the work is on a slice and a number, in `line`.
+// The reader: the lent bytes of the file and a place in them. Each method reads a line and goes on behind it: the work is on a slice and a number, in `line`.
 ghost use Rattle.std.specs.Prelude.{◌≡◌};
 ghost use Rattle.schedule.specs.Line.{line_at};
-ghost use Rattle.schedule.specs.Private.{Ahead, place_after, KnownLine, line_read};
+ghost use Rattle.schedule.specs.Private.{LastLf, KnownLine, read_to};
 
-use crate::line;
-use crate::line::StepRead;
+use crate::lf::Untested;
+use crate::line::{known_line, line_by};
+use rules::step::Step;
+use text::look::Tested;
+use text::number::Broken;
 
 #[derive(Clone, Copy)]
 pub(crate) struct Reader<'a> {
@@ -12,40 +15,31 @@ pub(crate) struct Reader<'a> {
     pub at: usize,
 }
 
-// A reader at a place of the file.
-pub(crate) fn reader_at<'a>(file: &'a [u8], at: usize) -> Reader<'a>
-    ensures { (result.file ≡ file.entry) × (result.at ≡ at) }
-{
-    Reader { file, at }
-}
+impl<'a> Reader<'a> {
+    // The step of the line here, and then the place behind the line; or the place where the line breaks the form. The file's last LF stands before end.
+    pub(crate) fn line(&mut self, end: usize) -> Result<Step, Broken>
+        requires { LastLf self.old.file.now end }
+        ensures same { self.new.file ≡ self.old.file }
+        ensures read { line_at self.old.file.now self.old.at ≡ read_to result self.new.at }
+    {
+        let read = if self.at < end {
+            line_by::<Untested>(self.file, self.at)
+        } else {
+            line_by::<Tested>(self.file, self.at)
+        };
+        let (step, next) = read?;
+        self.at = next;
+        Ok(step)
+    }
 
-// The place after the step line where the reader stands; 0 where the line breaks the form.
-pub(crate) fn end_of_line<'a>(r: Reader<'a>) -> usize
-    requires { Ahead r.file.now r.at }
-    ensures { result ≡ place_after (line_at r.entry.file.now r.entry.at) }
-{
-    line::line_end(r.file, r.at)
-}
-
-// The step where the reader stands, and the place after its line. The line is known to keep the form.
-pub(crate) fn step<'a>(r: Reader<'a>) -> StepRead
-    requires { KnownLine r.file.now r.at }
-    ensures { line_at r.entry.file.now r.entry.at ≡ line_read result }
-{
-    line::known_line(r.file, r.at)
-}
-
-// The two through a reader, with plain parameters, for the loops above.
-pub(crate) fn line_end_at(s: &[u8], at: usize) -> usize
-    requires { Ahead s.now at }
-    ensures { result ≡ place_after (line_at s.now at) }
-{
-    end_of_line(reader_at(s, at))
-}
-
-pub(crate) fn step_at(s: &[u8], at: usize) -> StepRead
-    requires { KnownLine s.now at }
-    ensures { line_at s.now at ≡ line_read result }
-{
-    step(reader_at(s, at))
+    // The same of a line that is known to keep the form.
+    pub(crate) fn step(&mut self) -> Step
+        requires { KnownLine self.old.file.now self.old.at }
+        ensures same { self.new.file ≡ self.old.file }
+        ensures read { line_at self.old.file.now self.old.at ≡ Ok (result, self.new.at) }
+    {
+        let (step, next) = known_line(self.file, self.at);
+        self.at = next;
+        step
+    }
 }

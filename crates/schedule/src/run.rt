@@ -7,32 +7,16 @@ ghost use Rattle.schedule.specs.Private.{RunReady, RanTo, BothReady, BothRan, Fo
 use crate::counts::Counts;
 use crate::fault::Fault;
 use crate::file::{Places, form_of};
-use crate::reader;
+use crate::reader::Reader;
 use rules::group::Group;
 use rules::store::Store;
 
-// What a file's run gives: its fault, and then no step was run; or no fault, the counts of its two sections, and the group at the end.
+// What the run of a sound file gives: the counts of its two sections, and the group at the end.
 #[derive(Clone, Copy)]
 pub struct Ran {
-    pub fault: Fault,
     pub warmup: Counts,
     pub measured: Counts,
     pub group: Group,
-}
-
-// The answer to a faulty file: no counts, and a group of size 0.
-pub(crate) fn no_run(fault: Fault) -> Ran
-    ensures { result ≡ runs.not_run fault }
-{
-    let group = Group::none();
-    let warmup = Counts::none();
-    let measured = Counts::none();
-    Ran {
-        fault,
-        warmup,
-        measured,
-        group,
-    }
 }
 
 // Takes the count steps whose lines stand from a place on, and answers their counts.
@@ -48,15 +32,11 @@ pub(crate) fn run_steps(
     ensures { RanTo s.now at count group.old store.old depths.old group.new store.new depths.new result }
 {
     let mut counts = Counts::none();
-    let mut i: u32 = 0;
-    let mut place = at;
-    while i < count {
-        let taken = reader::step_at(s, place);
-        let step = taken.step;
+    let mut reader = Reader { file: s, at };
+    for _ in 0..count {
+        let step = reader.step();
         let answer = group.step_sound(store, depths, step);
         counts = counts.counted(answer);
-        place = taken.next;
-        i += 1;
     }
     counts
 }
@@ -75,9 +55,7 @@ pub(crate) fn run_both(
     let mut last = group;
     let warmup = run_steps(s, places.start, places.warmup, &mut last, store, depths);
     let measured = run_steps(s, places.middle, places.measured, &mut last, store, depths);
-    let fault = Fault::none();
     Ran {
-        fault: fault,
         warmup: warmup,
         measured: measured,
         group: last,
@@ -106,11 +84,9 @@ pub(crate) fn run_sound(
     let begun = Group::start(&values[..n as usize], store, depths);
     let group = begun.group;
     if too_short(store.len(), depths.len()) {
-        let fault = Fault::none();
         let warmup = Counts::refused(places.warmup);
         let measured = Counts::refused(places.measured);
         return Ran {
-            fault,
             warmup,
             measured,
             group,
@@ -120,15 +96,11 @@ pub(crate) fn run_sound(
 }
 
 // Runs a schedule file over a lent store and the lent depths of its messages. A faulty file runs no step, and leaves both as they were.
-pub fn run(file: &[u8], store: &mut [u64], depths: &mut [u16]) -> Ran
+pub fn run(file: &[u8], store: &mut [u64], depths: &mut [u16]) -> Result<Ran, Fault>
     ensures { runs.ran_over result store.new depths.new ≡ runs.run_of file.now store.old depths.old }
 {
-    let form = form_of(file);
-    let fault = form.fault;
-    if fault.number != 0 {
-        return no_run(fault);
-    }
+    let form = form_of(file)?;
     let values = form.values;
     let places = form.places;
-    run_sound(file, form.n, values, places, store, depths)
+    Ok(run_sound(file, form.n, values, places, store, depths))
 }

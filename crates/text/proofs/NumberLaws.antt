@@ -10,8 +10,9 @@ use lib.Dec.{ltb, leb}
 use lib.ListN.{length, get_or, drop, get_or-eq_default}
 use lib.Seq.{drop-cons, get_or-drop}
 use borrow.Author.Tests.{le-ltb, le-leb, lt-leb, ne_eqb, ltb-false, leb-true}
+use Rattle.text.specs.Read.{bad}
+use Rattle.text.proofs.ReadLaws.{got}
 use Rattle.text.specs.Number.{is_digit, pick, most, scan, number_at}
-use Rattle.text.specs.declared.number.Number.TheVariants.{Bad, Value}
 
 -- ---- bytes and places
 
@@ -53,6 +54,13 @@ pub record Digit (s : List ℕ) (at : ℕ) : Type 0 where
 pub digit-here : (s : List ℕ) (at : ℕ) → is_digit (get_or s at 0) ≡ true → Digit s at
 digit-here s at d = let r = digit-range (get_or s at 0) d in record { is = d; within = inside s at (omega (arith, r.0)); low = r.0; high = r.1 }
 
+-- the same of a byte that was looked at and tested
+pub digit_seen : (s : List ℕ) (at : ℕ) {b : ℕ} {d : Bool} → b ≡ get_or s at 0 → d ≡ is_digit b → d ≡ true → Digit s at
+digit_seen s at e f g = digit-here s at (sym (f ∙ ap is_digit e) ∙ g)
+
+pub none_seen : (s : List ℕ) (at : ℕ) {b : ℕ} {d : Bool} → b ≡ get_or s at 0 → d ≡ is_digit b → d ≡ false → is_digit (get_or s at 0) ≡ false
+none_seen s at e f g = sym (f ∙ ap is_digit e) ∙ g
+
 pub front : (s : List ℕ) (at : ℕ) → get_or (drop at s) 0 0 ≡ get_or s at 0
 front s at = get_or-drop at s 0 0 ∙ ap (λ (k : ℕ). get_or s k 0) (omega arith)
 
@@ -65,11 +73,11 @@ pub scan-more : (v i b : ℕ) (t : List ℕ) → is_digit b ≡ true → v * 10 
 unfolding scan
 scan-more v i b t d h = rw (d, le-leb (v * 10 + (b - 48)) most h)
 
-pub scan-over : (v i b : ℕ) (t : List ℕ) → is_digit b ≡ true → most < v * 10 + (b - 48) → scan v i (b ∷ t) ≡ Bad i
+pub scan-over : (v i b : ℕ) (t : List ℕ) → is_digit b ≡ true → most < v * 10 + (b - 48) → scan v i (b ∷ t) ≡ bad i
 unfolding scan
 scan-over v i b t d h = rw (d, lt-leb (v * 10 + (b - 48)) most h)
 
-pub scan-stop : (v i : ℕ) (t : List ℕ) → is_digit (get_or t 0 0) ≡ false → scan v i t ≡ Value v i
+pub scan-stop : (v i : ℕ) (t : List ℕ) → is_digit (get_or t 0 0) ≡ false → scan v i t ≡ got v i
 unfolding scan
 scan-stop v i [] d = refl
 scan-stop v i (b ∷ t) d = rw d
@@ -81,27 +89,27 @@ module _ (s : List ℕ) (v i : ℕ) where
   at_more h d g = ap (scan v i) (drop-cons s i 0 h) ∙ scan-more v i (get_or s i 0) (drop (suc i) s) d g
       ∙ ap (λ (k : ℕ). scan (v * 10 + (get_or s i 0 - 48)) (i + 1) (drop k s)) (sym (add-one i))
 
-  pub at-over : i < length s → is_digit (get_or s i 0) ≡ true → most < v * 10 + (get_or s i 0 - 48) → scan v i (drop i s) ≡ Bad i
+  pub at-over : i < length s → is_digit (get_or s i 0) ≡ true → most < v * 10 + (get_or s i 0 - 48) → scan v i (drop i s) ≡ bad i
   at-over h d g = ap (scan v i) (drop-cons s i 0 h) ∙ scan-over v i (get_or s i 0) (drop (suc i) s) d g
 
-  pub at-stop : is_digit (get_or s i 0) ≡ false → scan v i (drop i s) ≡ Value v i
+  pub at-stop : is_digit (get_or s i 0) ≡ false → scan v i (drop i s) ≡ got v i
   at-stop d = scan-stop v i (drop i s) (ap is_digit (front s i) ∙ d)
 
-  pub at-end : length s ≤ i → scan v i (drop i s) ≡ Value v i
+  pub at-end : length s ≤ i → scan v i (drop i s) ≡ got v i
   at-end h = at-stop (ap is_digit (get_or-eq_default s 0 h) ∙ zero-none)
 
 -- ---- the cases of a decimal
 
 module _ (s : List ℕ) (at : ℕ) where
-  pub number-none : is_digit (get_or s at 0) ≡ false → number_at s at ≡ Bad at
+  pub number-none : is_digit (get_or s at 0) ≡ false → number_at s at ≡ bad at
   unfolding number_at is_digit
   number-none d = rw d
 
-  pub number-zero-more : get_or s at 0 ≡ 48 → is_digit (get_or s (at + 1) 0) ≡ true → number_at s at ≡ Bad (at + 1)
+  pub number-zero-more : get_or s at 0 ≡ 48 → is_digit (get_or s (at + 1) 0) ≡ true → number_at s at ≡ bad (at + 1)
   unfolding number_at is_digit
   number-zero-more e d = rw (e, d)
 
-  pub number-zero : get_or s at 0 ≡ 48 → is_digit (get_or s (at + 1) 0) ≡ false → number_at s at ≡ Value 0 (at + 1)
+  pub number-zero : get_or s at 0 ≡ 48 → is_digit (get_or s (at + 1) 0) ≡ false → number_at s at ≡ got 0 (at + 1)
   unfolding number_at is_digit
   number-zero e d = rw (e, d)
 
@@ -119,9 +127,9 @@ module _ (s : List ℕ) (at : ℕ) where
       ∙ ap (λ (v : ℕ). scan v (at + 1) (drop (at + 1) s)) (omega arith)
 
   -- one digit
-  pub number-one : is_digit (get_or s at 0) ≡ true → is_digit (get_or s (at + 1) 0) ≡ false → number_at s at ≡ Value (get_or s at 0 - 48) (at + 1)
+  pub number-one : is_digit (get_or s at 0) ≡ true → is_digit (get_or s (at + 1) 0) ≡ false → number_at s at ≡ got (get_or s at 0 - 48) (at + 1)
   number-one d f = go (ℕ_discrete (get_or s at 0) 48)
     where
-      go : Dec (get_or s at 0 ≡ 48) → number_at s at ≡ Value (get_or s at 0 - 48) (at + 1)
-      go (yes z) = number-zero s at z f ∙ ap (λ (v : ℕ). Value v (at + 1)) (omega arith)
+      go : Dec (get_or s at 0 ≡ 48) → number_at s at ≡ got (get_or s at 0 - 48) (at + 1)
+      go (yes z) = number-zero s at z f ∙ ap (λ (v : ℕ). got v (at + 1)) (omega arith)
       go (no z) = number_more d z ∙ at-stop s (get_or s at 0 - 48) (at + 1) f

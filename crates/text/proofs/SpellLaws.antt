@@ -10,9 +10,10 @@ use lib.Dec.{leb, eqb}
 use lib.ListN.{length, get_or, drop, length-append}
 use lib.Seq.{drop-cons, drop-drop, drop_at, append_snoc}
 use borrow.Author.Tests.{lt-ltb, le-ltb, leb-true, eqb-true, eqb-false}
+use Rattle.text.specs.Read.{bad}
 use Rattle.text.specs.Number.{is_digit, pick, most, scan, number_at, spell, spelled}
-use Rattle.text.specs.declared.number.Number.TheVariants.{Bad, Value}
 use Rattle.text.specs.Stands.{Stands}
+use Rattle.text.proofs.ReadLaws.{got, same-thing, same_place}
 use Rattle.text.proofs.NumberLaws.{digit-is, digit-range, zero-none, inside, front, scan-more, scan-stop, number-zero, number-scan}
 
 -- ---- the spelling
@@ -106,14 +107,14 @@ spell-lead (suc f) n h g = more-lead f n (spell-lead f (n / 10) h) g (dec_lt n 1
 
 -- the round trip, one way: a number's spelling, before a byte that is no digit, is read as that number
 module _ (s : List ℕ) (at next : ℕ) where
-  zero-spelled : (v : ℕ) → v ≡ 0 → Stands s at next (spelled v) → is_digit (get_or s next 0) ≡ false → number_at s at ≡ Value v next
+  zero-spelled : (v : ℕ) → v ≡ 0 → Stands s at next (spelled v) → is_digit (get_or s next 0) ≡ false → number_at s at ≡ got v next
   zero-spelled v z h d =
       let l : spelled v ≡ 48 ∷ [] = spell_one 9 v (omega arith) ∙ ap (λ (k : ℕ). (48 + k) ∷ []) z in
       let n : next ≡ at + 1 = h.end ∙ ap (λ (k : List ℕ). at + length k) l in
       let e : get_or s at 0 ≡ 48 = sym (front s at) ∙ ap (λ (k : List ℕ). get_or k 0 0) (h.here ∙ ap (λ (k : List ℕ). k ++ drop next s) l) in
-      number-zero s at e (ap (λ (k : ℕ). is_digit (get_or s k 0)) (sym n) ∙ d) ∙ ap₂ Value (sym z) (sym n)
+      number-zero s at e (ap (λ (k : ℕ). is_digit (get_or s k 0)) (sym n) ∙ d) ∙ ap₂ got (sym z) (sym n)
 
-  more-spelled : (v : ℕ) → 1 ≤ v → v ≤ most → Stands s at next (spelled v) → is_digit (get_or s next 0) ≡ false → number_at s at ≡ Value v next
+  more-spelled : (v : ℕ) → 1 ≤ v → v ≤ most → Stands s at next (spelled v) → is_digit (get_or s next 0) ≡ false → number_at s at ≡ got v next
   more-spelled v g m h d =
       let f : (49 ≤ get_or (spelled v ++ drop next s) 0 0) × (get_or (spelled v ++ drop next s) 0 0 ≤ 57) =
       lead-first (spelled v ++ drop next s) (lead-append (spelled v) (drop next s) (spell-lead 9 v (small-9 v m) g)) in
@@ -122,10 +123,10 @@ module _ (s : List ℕ) (at next : ℕ) where
       ∙ ap (scan 0 at) h.here ∙ spell-scan 9 v at (drop next s) (small-9 v m) m ∙ ap (λ (k : ℕ). scan v k (drop next s)) (sym h.end)
       ∙ scan-stop v next (drop next s) (ap is_digit (front s next) ∙ d)
 
-  pub number_spelled : (v : ℕ) → v ≤ most → Stands s at next (spelled v) → is_digit (get_or s next 0) ≡ false → number_at s at ≡ Value v next
+  pub number_spelled : (v : ℕ) → v ≤ most → Stands s at next (spelled v) → is_digit (get_or s next 0) ≡ false → number_at s at ≡ got v next
   number_spelled v m h d = go (ℕ_discrete v 0)
     where
-      go : Dec (v ≡ 0) → number_at s at ≡ Value v next
+      go : Dec (v ≡ 0) → number_at s at ≡ got v next
       go (yes z) = zero-spelled v z h d
       go (no z) = more-spelled v (omega arith) m h d
 
@@ -142,9 +143,9 @@ record Scanned (v i : ℕ) (t : List ℕ) (w j : ℕ) : Type 0 where
   stopped : is_digit (get_or left 0 0) ≡ false
 
 module _ (v i w j : ℕ) (m : v ≤ most) where
-  scanned-none : (t : List ℕ) → is_digit (get_or t 0 0) ≡ false → Value v i ≡ Value w j → Scanned v i t w j
+  scanned-none : (t : List ℕ) → is_digit (get_or t 0 0) ≡ false → got v i ≡ got w j → Scanned v i t w j
   scanned-none t d e =
-      let p : v ≡ w = cc in let q : i ≡ j = cc in
+      let p : v ≡ w = same-thing e in let q : i ≡ j = same_place e in
       record { went = []; left = t; split = refl; end = omega arith; same = ap spelled (sym p) ∙ sym (append-nil (spelled v)); small = omega arith; stopped = d }
 
 scanned-more : (v i b : ℕ) (t : List ℕ) (w j : ℕ) → 1 ≤ v → is_digit b ≡ true → v * 10 + (b - 48) ≤ most
@@ -165,16 +166,16 @@ scanned-more v i b t w j g d m r =
     }
 
 scanned-step : (v i b : ℕ) (t : List ℕ) (w j : ℕ) → 1 ≤ v → v ≤ most
-    → (v * 10 + (b - 48) ≤ most → scan (v * 10 + (b - 48)) (i + 1) t ≡ Value w j → Scanned (v * 10 + (b - 48)) (i + 1) t w j)
+    → (v * 10 + (b - 48) ≤ most → scan (v * 10 + (b - 48)) (i + 1) t ≡ got w j → Scanned (v * 10 + (b - 48)) (i + 1) t w j)
     → (x : Bool) → is_digit b ≡ x → (y : Bool) → leb (v * 10 + (b - 48)) most ≡ y
-    → pick x (pick y (scan (v * 10 + (b - 48)) (i + 1) t) (Bad i)) (Value v i) ≡ Value w j → Scanned v i (b ∷ t) w j
+    → pick x (pick y (scan (v * 10 + (b - 48)) (i + 1) t) (bad i)) (got v i) ≡ got w j → Scanned v i (b ∷ t) w j
 scanned-step v i b t w j g m ih false d y o e = scanned-none v i w j m (b ∷ t) d e
 scanned-step v i b t w j g m ih true d false o e = let z : ◌≡◌ {A = ℕ} 0 1 = cc in absurd (omega arith)
 scanned-step v i b t w j g m ih true d true o e =
     let k = leb-true (v * 10 + (b - 48)) most o in
     scanned-more v i b t w j g d k (ih k e)
 
-scanned : (v i : ℕ) (t : List ℕ) (w j : ℕ) → 1 ≤ v → v ≤ most → scan v i t ≡ Value w j → Scanned v i t w j
+scanned : (v i : ℕ) (t : List ℕ) (w j : ℕ) → 1 ≤ v → v ≤ most → scan v i t ≡ got w j → Scanned v i t w j
 unfolding scan
 scanned v i [] w j g m e = scanned-none v i w j m [] zero-none e
 scanned v i (b ∷ t) w j g m e =
@@ -188,9 +189,9 @@ pub record ReadAs (s : List ℕ) (at v next : ℕ) : Type 0 where
   pub stopped : is_digit (get_or s next 0) ≡ false
 
 module _ (s : List ℕ) (at v next : ℕ) where
-  read-zero : get_or s at 0 ≡ 48 → is_digit (get_or s (at + 1) 0) ≡ false → Value 0 (at + 1) ≡ Value v next → ReadAs s at v next
+  read-zero : get_or s at 0 ≡ 48 → is_digit (get_or s (at + 1) 0) ≡ false → got 0 (at + 1) ≡ got v next → ReadAs s at v next
   read-zero z d e =
-      let p : 0 ≡ v = cc in let q : at + 1 ≡ next = cc in
+      let p : 0 ≡ v = same-thing e in let q : at + 1 ≡ next = same_place e in
       let h : at < length s = inside s at (omega arith) in
       record {
         stands = record {
@@ -216,25 +217,25 @@ module _ (s : List ℕ) (at v next : ℕ) where
         stopped = ap is_digit (sym (front s next) ∙ ap (λ (l : List ℕ). get_or l 0 0) rest) ∙ r.stopped;
       }
 
-  read-scan : is_digit (get_or s at 0) ≡ true → (get_or s at 0 ≡ 48 → ⊥) → scan 0 at (drop at s) ≡ Value v next → ReadAs s at v next
+  read-scan : is_digit (get_or s at 0) ≡ true → (get_or s at 0 ≡ 48 → ⊥) → scan 0 at (drop at s) ≡ got v next → ReadAs s at v next
   read-scan d n e =
       let g = digit-range (get_or s at 0) d in
       let h : at < length s = inside s at (omega arith) in
       let t : List ℕ = drop (suc at) s in
       let first : 0 * 10 + (get_or s at 0 - 48) ≡ get_or s at 0 - 48 = omega arith in
-      let far : scan (get_or s at 0 - 48) (at + 1) (drop (suc at) s) ≡ Value v next =
+      let far : scan (get_or s at 0 - 48) (at + 1) (drop (suc at) s) ≡ got v next =
       ap (λ (x : ℕ). scan x (at + 1) (drop (suc at) s)) (sym first)
       ∙ sym (scan-more 0 at (get_or s at 0) (drop (suc at) s) d (omega arith)) ∙ ap (scan 0 at) (sym (drop-cons s at 0 h)) ∙ e in
       from-scan (get_or s at 0) (omega arith) (omega arith) (drop (suc at) s) (drop-cons s at 0 h)
       (scanned (get_or s at 0 - 48) (at + 1) (drop (suc at) s) v next (omega arith) (omega arith) far)
 
   read-cases : (x : Bool) → is_digit (get_or s at 0) ≡ x → (y : Bool) → eqb (get_or s at 0) 48 ≡ y → (z : Bool) → is_digit (get_or s (at + 1) 0) ≡ z
-      → pick x (pick y (pick z (Bad (at + 1)) (Value 0 (at + 1))) (scan 0 at (drop at s))) (Bad at) ≡ Value v next → ReadAs s at v next
+      → pick x (pick y (pick z (bad (at + 1)) (got 0 (at + 1))) (scan 0 at (drop at s))) (bad at) ≡ got v next → ReadAs s at v next
   read-cases false d y o z k e = let u : ◌≡◌ {A = ℕ} 0 1 = cc in absurd (omega arith)
   read-cases true d false o z k e = read-scan d (eqb-false (get_or s at 0) 48 o) e
   read-cases true d true o true k e = let u : ◌≡◌ {A = ℕ} 0 1 = cc in absurd (omega arith)
   read-cases true d true o false k e = read-zero (eqb-true (get_or s at 0) 48 o) k e
 
-  pub number_read : number_at s at ≡ Value v next → ReadAs s at v next
+  pub number_read : number_at s at ≡ got v next → ReadAs s at v next
   unfolding number_at
   number_read e = read-cases (is_digit (get_or s at 0)) refl (eqb (get_or s at 0) 48) refl (is_digit (get_or s (at + 1) 0)) refl e

@@ -8,10 +8,11 @@ use lib.Dec.{leb, eqb}
 use lib.ListN.{length, get_or, drop, length-append, length-drop}
 use lib.Seq.{drop-drop}
 use borrow.Author.Tests.{leb-true, leb-false, eqb-true, eqb-false}
+use Rattle.text.specs.Read.{Read, bad}
 use Rattle.text.specs.Number.{is_digit, pick, most, scan, number_at, spelled}
 use Rattle.text.specs.Stands.{Stands}
-use Rattle.text.specs.declared.number.Number.{Number}
-use Rattle.text.specs.declared.number.Number.TheVariants.{Bad, Value}
+use Rattle.std.specs.Prelude.{Ok, Err}
+use Rattle.text.proofs.ReadLaws.{got, same-break}
 use Rattle.text.proofs.NumberLaws.{digit-range, zero-none, front, scan-more, scan-over, at-stop, number_more}
 use Rattle.text.proofs.StandsLaws.{stands-none, stands-join, stands-byte}
 use Rattle.text.proofs.SpellLaws.{spell_one, spelled-snoc}
@@ -75,15 +76,15 @@ module _ (s : List ℕ) (at p : ℕ) where
   whole v i m h e = record { value = v; small = m; begins = begins-whole (subst (λ (k : ℕ). Stands s at k (spelled v)) e h) }
 
   scan_step : (v i b : ℕ) (l : List ℕ) → v ≤ most → Stands s at i (spelled v)
-      → (is_digit b ≡ true → v * 10 + (b - 48) ≤ most → scan (v * 10 + (b - 48)) (i + 1) l ≡ Bad p → NumberBegins s at p)
+      → (is_digit b ≡ true → v * 10 + (b - 48) ≤ most → scan (v * 10 + (b - 48)) (i + 1) l ≡ bad p → NumberBegins s at p)
       → (x : Bool) → is_digit b ≡ x → (y : Bool) → leb (v * 10 + (b - 48)) most ≡ y
-      → pick x (pick y (scan (v * 10 + (b - 48)) (i + 1) l) (Bad i)) (Value v i) ≡ Bad p → NumberBegins s at p
+      → pick x (pick y (scan (v * 10 + (b - 48)) (i + 1) l) (bad i)) (got v i) ≡ bad p → NumberBegins s at p
   scan_step v i b l m h ih false d y o e = let z : ◌≡◌ {A = ℕ} 0 1 = cc in absurd (omega arith)
-  scan_step v i b l m h ih true d false o e = whole v i m h (cc)
+  scan_step v i b l m h ih true d false o e = whole v i m h (same-break e)
   scan_step v i b l m h ih true d true o e = ih d (leb-true (v * 10 + (b - 48)) most o) e
 
   -- the digits up to i are the spelling of v: those up to the digit that makes the number too large are that of what was scanned
-  scan_begins : (v i : ℕ) (l : List ℕ) → drop i s ≡ l → 1 ≤ v → v ≤ most → Stands s at i (spelled v) → scan v i l ≡ Bad p → NumberBegins s at p
+  scan_begins : (v i : ℕ) (l : List ℕ) → drop i s ≡ l → 1 ≤ v → v ≤ most → Stands s at i (spelled v) → scan v i l ≡ bad p → NumberBegins s at p
   unfolding scan
   scan_begins v i [] k g m h e = let z : ◌≡◌ {A = ℕ} 0 1 = cc in absurd (omega arith)
   scan_begins v i (b ∷ l) k g m h e =
@@ -103,11 +104,11 @@ module _ (s : List ℕ) (at p : ℕ) where
   nothing e = record { value = 0; small = omega arith; begins = subst (λ (k : ℕ). Begins s at k (spelled 0)) e (begins-none s at (spelled 0)) }
 
   bad-cases : (x : Bool) → is_digit (get_or s at 0) ≡ x → (y : Bool) → eqb (get_or s at 0) 48 ≡ y → (z : Bool)
-      → (pick x (pick y (pick z (Bad (at + 1)) (Value 0 (at + 1))) (scan 0 at (drop at s))) (Bad at) ≡ Bad p) → number_at s at ≡ Bad p → NumberBegins s at p
-  bad-cases false d y o z e f = nothing (cc)
+      → (pick x (pick y (pick z (bad (at + 1)) (got 0 (at + 1))) (scan 0 at (drop at s))) (bad at) ≡ bad p) → number_at s at ≡ bad p → NumberBegins s at p
+  bad-cases false d y o z e f = nothing (same-break e)
   bad-cases true d true o false e f = let u : ◌≡◌ {A = ℕ} 0 1 = cc in absurd (omega arith)
   bad-cases true d true o true e f =
-      let k : at + 1 ≡ p = cc in
+      let k : at + 1 ≡ p = same-break e in
       let r = eqb-true (get_or s at 0) 48 o in
       whole (get_or s at 0 - 48) (at + 1) (omega arith) (first-digit (get_or s at 0) d refl) k
   bad-cases true d false o z e f =
@@ -117,7 +118,7 @@ module _ (s : List ℕ) (at p : ℕ) where
       (sym (number_more s at d n) ∙ f)
 
   -- the digits before the byte that no decimal has there begin the spelling of a number
-  pub number-begins : number_at s at ≡ Bad p → NumberBegins s at p
+  pub number-begins : number_at s at ≡ bad p → NumberBegins s at p
   unfolding number_at
   number-begins e = bad-cases (is_digit (get_or s at 0)) refl (eqb (get_or s at 0) 48) refl (is_digit (get_or s (at + 1) 0)) e e
 
@@ -152,11 +153,11 @@ module _ {A : Type 0} {stop : A → ℕ} {at : ℕ} where
   local-later g h = record { low = λ s. omega (arith, h.low s); same = h.same }
 
 -- where a number stops
-abbrev pub stop_at : Number → ℕ
-stop_at (Bad p) = p
-stop_at (Value v n) = n
+abbrev pub stop_at : Read ℕ → ℕ
+stop_at (Err p) = p.place
+stop_at (Ok (v, n)) = n
 
-low_step : (v i : ℕ) (r : Number) → i + 1 ≤ stop_at r → (x y : Bool) → i ≤ stop_at (pick x (pick y r (Bad i)) (Value v i))
+low_step : (v i : ℕ) (r : Read ℕ) → i + 1 ≤ stop_at r → (x y : Bool) → i ≤ stop_at (pick x (pick y r (bad i)) (got v i))
 low_step v i r h true true = omega arith
 low_step v i r h true false = omega arith
 low_step v i r h false y = omega arith
@@ -171,8 +172,8 @@ module _ (s t : List ℕ) where
   same_step : (v i b : ℕ) (l : List ℕ) → get_or s i 0 ≡ b
       → (Same s t (stop_at (scan (v * 10 + (b - 48)) (i + 1) l)) → scan (v * 10 + (b - 48)) (i + 1) (drop (i + 1) t) ≡ scan (v * 10 + (b - 48)) (i + 1) l)
       → (x : Bool) → is_digit b ≡ x → (y : Bool) → leb (v * 10 + (b - 48)) most ≡ y
-      → Same s t (stop_at (pick x (pick y (scan (v * 10 + (b - 48)) (i + 1) l) (Bad i)) (Value v i)))
-      → scan v i (drop i t) ≡ pick x (pick y (scan (v * 10 + (b - 48)) (i + 1) l) (Bad i)) (Value v i)
+      → Same s t (stop_at (pick x (pick y (scan (v * 10 + (b - 48)) (i + 1) l) (bad i)) (got v i)))
+      → scan v i (drop i t) ≡ pick x (pick y (scan (v * 10 + (b - 48)) (i + 1) l) (bad i)) (got v i)
   same_step v i b l f ih false d y o e = at-stop t v i (ap is_digit (sym (e i (omega arith)) ∙ f) ∙ d)
   same_step v i b l f ih true d false o e =
       let r = digit-range b d in
@@ -196,10 +197,10 @@ scan-local v i = record { low = λ s. scan-low v i (drop i s); same = λ s t e. 
 pub number-local : (at : ℕ) → Local stop_at at (λ s. number_at s at)
 unfolding number_at
 number-local at =
-    local-byte (λ b s. pick (is_digit b) (pick (eqb b 48) (pick (is_digit (get_or s (at + 1) 0)) (Bad (at + 1)) (Value 0 (at + 1))) (scan 0 at (drop at s))) (Bad at))
+    local-byte (λ b s. pick (is_digit b) (pick (eqb b 48) (pick (is_digit (get_or s (at + 1) 0)) (bad (at + 1)) (got 0 (at + 1))) (scan 0 at (drop at s))) (bad at))
     (λ b. local-pick (is_digit b)
     (local-pick (eqb b 48)
-    (local-later {n = at + 1} (omega arith) (local-byte (λ c s. pick (is_digit c) (Bad (at + 1)) (Value 0 (at + 1)))
+    (local-later {n = at + 1} (omega arith) (local-byte (λ c s. pick (is_digit c) (bad (at + 1)) (got 0 (at + 1)))
     (λ c. local-pick (is_digit c) (local-none (omega arith)) (local-none (omega arith)))))
     (scan-local 0 at))
     (local-none (omega arith)))

@@ -2,5 +2,6 @@
 // Each public function is total, and its contract says the one answer for any bytes and any place.
 #![tactic(auto)]
 
+pub mod look;
 pub mod number;
 pub mod put;

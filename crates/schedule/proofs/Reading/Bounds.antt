@@ -5,10 +5,11 @@ use mathlib.Core.List.{List}
 use Prim.Native.Nat.{ℕ, ◌≤◌}
 use native.Mathlib.Omega.{arith}
 use lib.ListN.{length, length-append}
+use Rattle.text.specs.Read.{Read, bad}
+use Rattle.text.proofs.ReadLaws.{got}
 use Rattle.text.specs.Number.{spelled}
 use Rattle.text.specs.Stands.{Stands}
-use Rattle.text.specs.declared.number.Number.TheVariants.{Bad, Value}
-use Rattle.schedule.specs.Lines.{Item, broken, item, broken_at, lines_at, lines_of}
+use Rattle.schedule.specs.Lines.{broken_at, lines_at, lines_of}
 use Rattle.schedule.specs.Line.{spaced, ending, line_at}
 use Rattle.schedule.specs.Header.{header_of, header_at, count_at}
 use Rattle.schedule.specs.Values.{value_at}
@@ -29,10 +30,10 @@ begun-within : {A : Type 0} {P : A → Type 0} {f : A → List ℕ} {s : List �
 begun-within b h = (begins-low b.begins, begins-high b.begins h)
 
 module _ (s : List ℕ) (at : ℕ) (w : List ℕ) (high : at ≤ length s) where
-  pub header-within : {p : ℕ} → header_at s at w ≡ Bad p → Within s at p
+  pub header-within : {p : ℕ} → header_at s at w ≡ bad p → Within s at p
   header-within {p} e = begun-within (header-begins s at w p e) high
 
-  module _ {k a : ℕ} (e : header_at s at w ≡ Value k a) where
+  module _ {k a : ℕ} (e : header_at s at w ≡ got k a) where
     pub header-high : a ≤ length s
     header-high = stands-high s at a (header_of w k) (header_read s at w a k e).1 high
 
@@ -42,8 +43,8 @@ module _ (s : List ℕ) (at : ℕ) (w : List ℕ) (high : at ≤ length s) where
         let p = (header_read s at w a k e).1 in
         omega (arith, header-high, p.end, length-append w (spaced k (ending false)), length-append (spelled k) (ending false))
 
-module _ {A : Type 0} {P : A → Type 0} {g : A → List ℕ} (s : List ℕ) (f : ℕ → Item A) (reads : (at m : ℕ) (x : A) → f at ≡ item x m → P x × Stands s at m (g x))
-    (begins : (at p : ℕ) → f at ≡ broken p → Begun P g s at p) where
+module _ {A : Type 0} {P : A → Type 0} {g : A → List ℕ} (s : List ℕ) (f : ℕ → Read A) (reads : (at m : ℕ) (x : A) → f at ≡ got x m → P x × Stands s at m (g x))
+    (begins : (at p : ℕ) → f at ≡ bad p → Begun P g s at p) where
   lines-within : (k i a j from p : ℕ) → lines_at f k i a ≡ broken_at j from p → a ≤ length s → Within s from p
   lines-within k i a j from p e h =
       let b = lines-ahead f j from p k i a e in

@@ -2,35 +2,32 @@
 use mathlib.Core.Path.{◌≡◌, refl, sym, ap, ap₂, ◌∙◌, subst}
 use mathlib.Core.Bool.{Bool, true, false}
 use mathlib.Core.List.{List, [], ◌∷◌}
-use mathlib.Core.Logic.{◌≢◌}
 use Prim.Native.Nat.{ℕ, ◌+◌, ◌-◌, ◌*◌, ◌≤◌, ◌<◌}
 use native.Mathlib.Omega.{arith}
 use native.Mathlib.Decide.{dec_lt}
 use lib.Dec.{ltb, leb, eqb}
 use lib.ListN.{length, get_or, drop}
 use borrow.Author.Tests.{eqb-true, eqb-false}
+use Rattle.std.specs.Prelude.{Option, Some, None, Ok, Err}
+use Rattle.schedule.specs.declared.letter.Letter.{Letter}
+use Rattle.text.specs.Read.{Read, bad, on_read}
+use Rattle.text.proofs.ReadLaws.{got, same-thing, same_place, bad-not}
 use Rattle.rules.specs.declared.step.Step.{Step}
 use Rattle.text.specs.Number.{is_digit, pick, most, scan, number_at}
-use Rattle.schedule.specs.Lines.{Item, broken, item, on_item}
-use Rattle.schedule.specs.Line.{numbers_after, may_cut, step_of, on_number, on_end, spaced_at, next_number, end_at, ended_at, after_letter, line_at}
-use Rattle.schedule.specs.Private.{KnownNumber, KnownNext, KnownLine, value_read}
-use Rattle.schedule.specs.declared.line.Read.{Read}
-use Rattle.schedule.specs.declared.line.End.{End}
-use Rattle.schedule.specs.declared.line.End.TheVariants.{NoEnd, Ends}
-use Rattle.text.specs.declared.number.Number.{Number}
-use Rattle.text.specs.declared.number.Number.TheVariants.{Bad, Value}
-use Rattle.schedule.proofs.Reading.Cases.{bad-not, same-value, same_place, spaced-is, space-here, next-wanted}
+use Rattle.schedule.specs.Line.{letter_of, on_letter, numbers_after, may_cut, step_of, spaced_at, next_number, end_at, ended_at, after_letter, line_at}
+use Rattle.schedule.specs.Private.{KnownNumber, KnownNext, KnownLine}
+use Rattle.schedule.proofs.Reading.Cases.{spaced-is, space-here, next-wanted}
 use Rattle.text.proofs.NumberLaws.{Digit, inside, digit-here, number-none, number-zero-more, number-zero, number-scan, at_more, at-over, at-stop}
 
 -- ---- numbers
 
 -- a scan ends where it begins, or later
-low_step : (v i w e : ℕ) (rest : Number) → (rest ≡ Value w e → i + 1 ≤ e) → (d f : Bool) → pick d (pick f rest (Bad i)) (Value v i) ≡ Value w e → i ≤ e
+low_step : (v i w e : ℕ) (rest : Read ℕ) → (rest ≡ got w e → i + 1 ≤ e) → (d f : Bool) → pick d (pick f rest (bad i)) (got v i) ≡ got w e → i ≤ e
 low_step v i w e rest h true true q = omega (arith, h q)
 low_step v i w e rest h true false q = absurd (bad-not q)
 low_step v i w e rest h false f q = let p : i ≡ e = same_place q in omega arith
 
-scan-low : (v i : ℕ) (t : List ℕ) (w e : ℕ) → scan v i t ≡ Value w e → i ≤ e
+scan-low : (v i : ℕ) (t : List ℕ) (w e : ℕ) → scan v i t ≡ got w e → i ≤ e
 unfolding scan
 scan-low v i [] w e p = let q : i ≡ e = same_place p in omega arith
 scan-low v i (b ∷ t) w e p =
@@ -40,8 +37,8 @@ scan-low v i (b ∷ t) w e p =
 pub record Underway (s : List ℕ) (at v i : ℕ) : Type 0 where
   pub value : ℕ
   pub end : ℕ
-  pub is : number_at s at ≡ Value value end
-  pub rest : scan v i (drop i s) ≡ Value value end
+  pub is : number_at s at ≡ got value end
+  pub rest : scan v i (drop i s) ≡ got value end
   pub high : end < length s
 
 module _ (s : List ℕ) (at v i : ℕ) (u : Underway s at v i) where
@@ -68,7 +65,7 @@ module _ (s : List ℕ) (at v i : ℕ) (u : Underway s at v i) where
       }
 
   -- at the first byte that is no digit it is read whole
-  pub underway-whole : is_digit (get_or s i 0) ≡ false → number_at s at ≡ Value v i
+  pub underway-whole : is_digit (get_or s i 0) ≡ false → number_at s at ≡ got v i
   underway-whole d = u.is ∙ (sym u.rest ∙ at-stop s v i d)
 
 -- it begins with a digit, and is under way after it
@@ -80,13 +77,13 @@ module _ (s : List ℕ) (at : ℕ) (k : KnownNumber s at) where
   pub begun : Begun s at
   begun = first (is_digit (get_or s at 0)) refl
     where
-      after : scan (get_or s at 0 - 48) (at + 1) (drop (at + 1) s) ≡ Value k.value k.next → Underway s at (get_or s at 0 - 48) (at + 1)
+      after : scan (get_or s at 0 - 48) (at + 1) (drop (at + 1) s) ≡ got k.value k.next → Underway s at (get_or s at 0 - 48) (at + 1)
       after p = record { value = k.value; end = k.next; is = k.is; rest = p; high = k.inside }
 
       zero : get_or s at 0 ≡ 48 → (x : Bool) → is_digit (get_or s (at + 1) 0) ≡ x → Underway s at (get_or s at 0 - 48) (at + 1)
       zero e true p = absurd (bad-not (sym (number-zero-more s at e p) ∙ k.is))
       zero e false p =
-          after (at-stop s (get_or s at 0 - 48) (at + 1) p ∙ (ap (λ (x : ℕ). Value x (at + 1)) (omega (arith, e)) ∙ (sym (number-zero s at e p) ∙ k.is)))
+          after (at-stop s (get_or s at 0 - 48) (at + 1) p ∙ (ap (λ (x : ℕ). got x (at + 1)) (omega (arith, e)) ∙ (sym (number-zero s at e p) ∙ k.is)))
 
       second : is_digit (get_or s at 0) ≡ true → (x : Bool) → eqb (get_or s at 0) 48 ≡ x → Underway s at (get_or s at 0 - 48) (at + 1)
       second d true p = zero (eqb-true (get_or s at 0) 48 p) (is_digit (get_or s (at + 1) 0)) refl
@@ -102,12 +99,6 @@ module _ (s : List ℕ) (at : ℕ) (k : KnownNumber s at) where
 
 -- ---- lines
 
-broken-not : {p : ℕ} {x : Step} {m : ℕ} → broken p ≡ item x m → ⊥
-broken-not e = let z : ◌≡◌ {A = ℕ} 0 1 = ap (λ (y : Item Step). on_item y (λ _. 0) (λ _ _. 1)) e in absurd (omega arith)
-
-no-end-not : {p : ℕ} {x : Bool} {m : ℕ} → NoEnd p ≡ Ends x m → ⊥
-no-end-not e = let z : ◌≡◌ {A = ℕ} 0 1 = ap (λ (y : End). on_end y (λ _. 0) (λ _ _. 1)) e in absurd (omega arith)
-
 -- the end of a line: whether it is a cut shows at its first byte, and it stands within the file
 pub record Ended (s : List ℕ) (at : ℕ) (x : Bool) (next : ℕ) : Type 0 where
   pub told : eqb (get_or s at 0) 32 ≡ x
@@ -116,10 +107,10 @@ pub record Ended (s : List ℕ) (at : ℕ) (x : Bool) (next : ℕ) : Type 0 wher
   pub high : next ≤ length s
 
 module _ (s : List ℕ) (at : ℕ) where
-  end-plain : {x : Bool} {next : ℕ} → get_or s at 0 ≡ 10 → Ends false (at + 1) ≡ Ends x next → Ended s at x next
+  end-plain : {x : Bool} {next : ℕ} → get_or s at 0 ≡ 10 → got false (at + 1) ≡ got x next → Ended s at x next
   end-plain {x} {next} b e =
-      let f : false ≡ x = ap (λ (y : End). on_end y (λ _. false) (λ z _. z)) e in
-      let p : at + 1 ≡ next = ap (λ (y : End). on_end y (λ _. 0) (λ _ m. m)) e in
+      let f : false ≡ x = ap (λ (y : Read Bool). on_read y (λ _. false) (λ z _. z)) e in
+      let p : at + 1 ≡ next = ap (λ (y : Read Bool). on_read y (λ _. 0) (λ _ m. m)) e in
       let h : at < length s = inside s at (omega (arith, b)) in
       record {
         told = ap (λ (k : ℕ). eqb k 32) b ∙ f;
@@ -128,10 +119,10 @@ module _ (s : List ℕ) (at : ℕ) where
         high = omega arith;
       }
 
-  end-cut : {x : Bool} {next : ℕ} → get_or s at 0 ≡ 32 → get_or s (at + 2) 0 ≡ 10 → Ends true (at + 3) ≡ Ends x next → Ended s at x next
+  end-cut : {x : Bool} {next : ℕ} → get_or s at 0 ≡ 32 → get_or s (at + 2) 0 ≡ 10 → got true (at + 3) ≡ got x next → Ended s at x next
   end-cut {x} {next} b l e =
-      let f : true ≡ x = ap (λ (y : End). on_end y (λ _. false) (λ z _. z)) e in
-      let p : at + 3 ≡ next = ap (λ (y : End). on_end y (λ _. 0) (λ _ m. m)) e in
+      let f : true ≡ x = ap (λ (y : Read Bool). on_read y (λ _. false) (λ z _. z)) e in
+      let p : at + 3 ≡ next = ap (λ (y : Read Bool). on_read y (λ _. 0) (λ _ m. m)) e in
       let h : at + 2 < length s = inside s (at + 2) (omega (arith, l)) in
       record {
         told = ap (λ (k : ℕ). eqb k 32) b ∙ f;
@@ -140,32 +131,33 @@ module _ (s : List ℕ) (at : ℕ) where
         high = omega arith;
       }
 
-  pub end_known : (may x : Bool) (next : ℕ) → end_at s at may ≡ Ends x next → Ended s at x next
+  pub end_known : (may x : Bool) (next : ℕ) → end_at s at may ≡ got x next → Ended s at x next
   unfolding end_at
   end_known may x next e = lf (eqb (get_or s at 0) 10) refl e
     where
       cut : (m sp cx l : Bool) → eqb (get_or s at 0) 32 ≡ sp → eqb (get_or s (at + 2) 0) 10 ≡ l
-          → pick m (pick sp (pick cx (pick l (Ends true (at + 3)) (NoEnd (at + 2))) (NoEnd (at + 1))) (NoEnd at)) (NoEnd at) ≡ Ends x next → Ended s at x next
+          → pick m (pick sp (pick cx (pick l (got true (at + 3)) (bad (at + 2))) (bad (at + 1))) (bad at)) (bad at) ≡ got x next → Ended s at x next
       cut true true true true p q g = end-cut (eqb-true (get_or s at 0) 32 p) (eqb-true (get_or s (at + 2) 0) 10 q) g
-      cut true true true false p q g = absurd (no-end-not g)
-      cut true true false l p q g = absurd (no-end-not g)
-      cut true false cx l p q g = absurd (no-end-not g)
-      cut false sp cx l p q g = absurd (no-end-not g)
+      cut true true true false p q g = absurd (bad-not g)
+      cut true true false l p q g = absurd (bad-not g)
+      cut true false cx l p q g = absurd (bad-not g)
+      cut false sp cx l p q g = absurd (bad-not g)
 
       lf : (b : Bool) → eqb (get_or s at 0) 10 ≡ b
-          → pick b (Ends false (at + 1)) (pick may (pick (eqb (get_or s at 0) 32) (pick (eqb (get_or s (at + 1) 0) 88) (pick (eqb (get_or s (at + 2) 0) 10) (Ends true (at + 3)) (NoEnd (at + 2))) (NoEnd (at + 1))) (NoEnd at)) (NoEnd at)) ≡ Ends x next
+          → pick b (got false (at + 1)) (pick may (pick (eqb (get_or s at 0) 32) (pick (eqb (get_or s (at + 1) 0) 88) (pick (eqb (get_or s (at + 2) 0) 10) (got true (at + 3)) (bad (at + 2))) (bad (at + 1))) (bad at)) (bad at)) ≡ got x next
           → Ended s at x next
       lf true p g = end-plain (eqb-true (get_or s at 0) 10 p) g
       lf false p g = cut may (eqb (get_or s at 0) 32) (eqb (get_or s (at + 1) 0) 88) (eqb (get_or s (at + 2) 0) 10) refl refl g
 
   -- a number that is read where it is wanted has a space before it; where none is wanted, its place is the one after it
-  pub next_here : (wanted : Bool) (v m : ℕ) → next_number s at wanted ≡ Value v m → m < length s → at < length s
+  pub next_here : (wanted : Bool) (v m : ℕ) → next_number s at wanted ≡ got v m → m < length s → at < length s
   unfolding next_number
   next_here false v m e h = let p : at ≡ m = same_place e in omega arith
   next_here true v m e h = let b = space-here s at (sym (next-wanted s at refl) ∙ e) in inside s at (omega (arith, b))
 
 -- the parts of a line that keeps the form
 pub record Chain (s : List ℕ) (at : ℕ) (x : Step) (next : ℕ) : Type 0 where
+  pub letter : Letter
   pub first : ℕ
   pub second : ℕ
   pub third : ℕ
@@ -173,12 +165,12 @@ pub record Chain (s : List ℕ) (at : ℕ) (x : Step) (next : ℕ) : Type 0 wher
   pub m : ℕ
   pub l : ℕ
   pub cut : Bool
-  pub letter : numbers_after (get_or s at 0) ≢ 0
-  pub one : next_number s (at + 1) true ≡ Value first n
-  pub two : next_number s n (ltb 1 (numbers_after (get_or s at 0))) ≡ Value second m
-  pub three : next_number s m (ltb 2 (numbers_after (get_or s at 0))) ≡ Value third l
-  pub last : end_at s l (may_cut (get_or s at 0)) ≡ Ends cut next
-  pub step : x ≡ step_of (get_or s at 0) first second third cut
+  pub told : letter_of (get_or s at 0) ≡ Some letter
+  pub one : next_number s (at + 1) true ≡ got first n
+  pub two : next_number s n (ltb 1 (numbers_after letter)) ≡ got second m
+  pub three : next_number s m (ltb 2 (numbers_after letter)) ≡ got third l
+  pub last : end_at s l (may_cut letter) ≡ got cut next
+  pub step : x ≡ step_of letter first second third cut
   pub here : at < length s
   pub one_inside : n < length s
   pub two-inside : m < length s
@@ -186,82 +178,84 @@ pub record Chain (s : List ℕ) (at : ℕ) (x : Step) (next : ℕ) : Type 0 wher
   pub end : Ended s l cut next
 
 -- no letter stands past the end of the file
-pub letter-here : (s : List ℕ) (at : ℕ) → numbers_after (get_or s at 0) ≢ 0 → at < length s
-unfolding numbers_after
-letter-here s at h = go (dec_lt 0 (get_or s at 0))
+past-end : letter_of 0 ≡ None
+unfolding letter_of
+past-end = refl
+
+pub letter-here : (s : List ℕ) (at : ℕ) {b : Letter} → letter_of (get_or s at 0) ≡ Some b → at < length s
+letter-here s at {b} h = go (dec_lt 0 (get_or s at 0))
   where
     go : Dec (0 < get_or s at 0) → at < length s
     go (yes p) = inside s at p
-    go (no n) = let e : get_or s at 0 ≡ 0 = omega arith in absurd (h (rw e))
-
--- the same of a letter that was read
-pub letter-inside : (s : List ℕ) (at : ℕ) {b count : ℕ} → b ≡ get_or s at 0 → count ≡ numbers_after b → count ≢ 0 → at < length s
-letter-inside s at e f n = letter-here s at (λ z. n (f ∙ ap numbers_after e ∙ z))
+    go (no n) =
+        let e : get_or s at 0 ≡ 0 = omega arith in
+        let z : None ≡ Some b = sym (ap letter_of e ∙ past-end) ∙ h in
+        let u : ◌≡◌ {A = ℕ} 0 1 = cc in
+        absurd (omega arith)
 
 module _ (s : List ℕ) (at : ℕ) (x : Step) (next : ℕ) where
-  abbrev c : ℕ
-  c = get_or s at 0
+  module _ (c : Letter) (told : letter_of (get_or s at 0) ≡ Some c) where
+    chain-of : (i n j m r l : ℕ) (z : Bool) (e : ℕ) → next_number s (at + 1) true ≡ got i n → next_number s n (ltb 1 (numbers_after c)) ≡ got j m
+        → next_number s m (ltb 2 (numbers_after c)) ≡ got r l → end_at s l (may_cut c) ≡ got z e → got (step_of c i j r z) e ≡ got x next → Chain s at x next
+    chain-of i n j m r l z e one two three last whole =
+        let same : e ≡ next = same_place whole in
+        let step : x ≡ step_of c i j r z = sym (same-thing whole) in
+        let last' : end_at s l (may_cut c) ≡ got z next = last ∙ ap (got z) same in
+        let end = end_known s l (may_cut c) z next last' in
+        let m-in = next_here s m (ltb 2 (numbers_after c)) r l three end.here in
+        record {
+          letter = c;
+          first = i;
+          second = j;
+          third = r;
+          n = n;
+          m = m;
+          l = l;
+          cut = z;
+          told = told;
+          one = one;
+          two = two;
+          three = three;
+          last = last';
+          step = step;
+          here = letter-here s at told;
+          one_inside = next_here s n (ltb 1 (numbers_after c)) j m two m-in;
+          two-inside = m-in;
+          three-inside = end.here;
+          end = end;
+        }
 
-  chain-of : (i n j m r l : ℕ) (z : Bool) (e : ℕ) → numbers_after c ≢ 0 → next_number s (at + 1) true ≡ Value i n → next_number s n (ltb 1 (numbers_after c)) ≡ Value j m
-      → next_number s m (ltb 2 (numbers_after c)) ≡ Value r l → end_at s l (may_cut c) ≡ Ends z e → item (step_of c i j r z) e ≡ item x next → Chain s at x next
-  chain-of i n j m r l z e letter one two three last whole =
-      let same : e ≡ next = ap (λ (y : Item Step). on_item y (λ _. 0) (λ _ k. k)) whole in
-      let step : x ≡ step_of c i j r z = sym (ap (λ (y : Item Step). on_item y (λ _. step_of c i j r z) (λ k _. k)) whole) in
-      let last' : end_at s l (may_cut c) ≡ Ends z next = last ∙ ap (Ends z) same in
-      let end = end_known s l (may_cut c) z next last' in
-      let m-in = next_here s m (ltb 2 (numbers_after c)) r l three end.here in
-      record {
-        first = i;
-        second = j;
-        third = r;
-        n = n;
-        m = m;
-        l = l;
-        cut = z;
-        letter = letter;
-        one = one;
-        two = two;
-        three = three;
-        last = last';
-        step = step;
-        here = letter-here s at letter;
-        one_inside = next_here s n (ltb 1 (numbers_after c)) j m two m-in;
-        two-inside = m-in;
-        three-inside = end.here;
-        end = end;
-      }
+    on-end : (i n j m r l : ℕ) → next_number s (at + 1) true ≡ got i n → next_number s n (ltb 1 (numbers_after c)) ≡ got j m
+        → next_number s m (ltb 2 (numbers_after c)) ≡ got r l → (k : Read Bool) → end_at s l (may_cut c) ≡ k
+        → on_read k bad (λ z e. got (step_of c i j r z) e) ≡ got x next → Chain s at x next
+    on-end i n j m r l one two three (Err q) p g = absurd (bad-not g)
+    on-end i n j m r l one two three (Ok (z, e')) p g = chain-of i n j m r l z e' one two three p g
 
-  pub line-chain : line_at s at ≡ item x next → Chain s at x next
-  unfolding line_at after_letter ended_at
-  line-chain e = letter (eqb (numbers_after c) 0) refl e
-    where
-      on-end : (i n j m r l : ℕ) → numbers_after c ≢ 0 → next_number s (at + 1) true ≡ Value i n → next_number s n (ltb 1 (numbers_after c)) ≡ Value j m
-          → next_number s m (ltb 2 (numbers_after c)) ≡ Value r l → (k : End) → end_at s l (may_cut c) ≡ k
-          → on_end k broken (λ z e. item (step_of c i j r z) e) ≡ item x next → Chain s at x next
-      on-end i n j m r l h one two three (NoEnd q) p g = absurd (broken-not g)
-      on-end i n j m r l h one two three (Ends z e') p g = chain-of i n j m r l z e' h one two three p g
+    on-three : (i n j m : ℕ) → next_number s (at + 1) true ≡ got i n → next_number s n (ltb 1 (numbers_after c)) ≡ got j m
+        → (k : Read ℕ) → next_number s m (ltb 2 (numbers_after c)) ≡ k → on_read k bad (λ r l. ended_at c i j r s l) ≡ got x next → Chain s at x next
+    unfolding ended_at
+    on-three i n j m one two (Err q) p g = absurd (bad-not g)
+    on-three i n j m one two (Ok (r, l)) p g = on-end i n j m r l one two p (end_at s l (may_cut c)) refl g
 
-      on-three : (i n j m : ℕ) → numbers_after c ≢ 0 → next_number s (at + 1) true ≡ Value i n → next_number s n (ltb 1 (numbers_after c)) ≡ Value j m
-          → (k : Number) → next_number s m (ltb 2 (numbers_after c)) ≡ k
-          → on_number k broken (λ r l. on_end (end_at s l (may_cut c)) broken (λ z e. item (step_of c i j r z) e)) ≡ item x next → Chain s at x next
-      on-three i n j m h one two (Bad q) p g = absurd (broken-not g)
-      on-three i n j m h one two (Value r l) p g = on-end i n j m r l h one two p (end_at s l (may_cut c)) refl g
+    on-two : (i n : ℕ) → next_number s (at + 1) true ≡ got i n → (k : Read ℕ) → next_number s n (ltb 1 (numbers_after c)) ≡ k
+        → on_read k bad (λ j m. on_read (next_number s m (ltb 2 (numbers_after c))) bad (λ r l. ended_at c i j r s l)) ≡ got x next → Chain s at x next
+    on-two i n one (Err q) p g = absurd (bad-not g)
+    on-two i n one (Ok (j, m)) p g = on-three i n j m one p (next_number s m (ltb 2 (numbers_after c))) refl g
 
-      on-two : (i n : ℕ) → numbers_after c ≢ 0 → next_number s (at + 1) true ≡ Value i n → (k : Number) → next_number s n (ltb 1 (numbers_after c)) ≡ k
-          → on_number k broken (λ j m. on_number (next_number s m (ltb 2 (numbers_after c))) broken (λ r l. on_end (end_at s l (may_cut c)) broken (λ z e. item (step_of c i j r z) e))) ≡ item x next
-          → Chain s at x next
-      on-two i n h one (Bad q) p g = absurd (broken-not g)
-      on-two i n h one (Value j m) p g = on-three i n j m h one p (next_number s m (ltb 2 (numbers_after c))) refl g
+    on_one : (k : Read ℕ) → next_number s (at + 1) true ≡ k
+        → on_read k bad (λ i n. on_read (next_number s n (ltb 1 (numbers_after c))) bad (λ j m. on_read (next_number s m (ltb 2 (numbers_after c))) bad (λ r l. ended_at c i j r s l))) ≡ got x next
+        → Chain s at x next
+    on_one (Err q) p g = absurd (bad-not g)
+    on_one (Ok (i, n)) p g = on-two i n p (next_number s n (ltb 1 (numbers_after c))) refl g
 
-      on_one : numbers_after c ≢ 0 → (k : Number) → next_number s (at + 1) true ≡ k
-          → on_number k broken (λ i n. on_number (next_number s n (ltb 1 (numbers_after c))) broken (λ j m. on_number (next_number s m (ltb 2 (numbers_after c))) broken (λ r l. on_end (end_at s l (may_cut c)) broken (λ z e. item (step_of c i j r z) e)))) ≡ item x next
-          → Chain s at x next
-      on_one h (Bad q) p g = absurd (broken-not g)
-      on_one h (Value i n) p g = on-two i n h p (next_number s n (ltb 1 (numbers_after c))) refl g
+  on-letter : (o : Option Letter) → letter_of (get_or s at 0) ≡ o → on_letter o (bad at) (λ b. after_letter b s (at + 1)) ≡ got x next → Chain s at x next
+  unfolding after_letter
+  on-letter None p g = absurd (bad-not g)
+  on-letter (Some c) p g = on_one c p (next_number s (at + 1) true) refl g
 
-      letter : (b : Bool) → eqb (numbers_after c) 0 ≡ b → pick b (broken at) (after_letter c s (at + 1)) ≡ item x next → Chain s at x next
-      letter true p g = absurd (broken-not g)
-      letter false p g = on_one (eqb-false (numbers_after c) 0 p) (next_number s (at + 1) true) refl g
+  pub line-chain : line_at s at ≡ got x next → Chain s at x next
+  unfolding line_at
+  line-chain e = on-letter (letter_of (get_or s at 0)) refl e
 
 -- ---- what the code asks and has read
 
@@ -271,7 +265,7 @@ module _ (s : List ℕ) (at : ℕ) (wanted : Bool) (k : KnownNext s at wanted) w
   behind-here = next_here s at wanted k.value k.next k.is k.inside
 
   module _ (w : wanted ≡ true) where
-    as_wanted : spaced_at s at ≡ Value k.value k.next
+    as_wanted : spaced_at s at ≡ got k.value k.next
     as_wanted = sym (next-wanted s at w) ∙ k.is
 
     behind : spaced_at s at ≡ number_at s (at + 1)
@@ -280,7 +274,7 @@ module _ (s : List ℕ) (at : ℕ) (wanted : Bool) (k : KnownNext s at wanted) w
     pub behind-known : KnownNumber s (at + 1)
     behind-known = record { value = k.value; next = k.next; is = sym behind ∙ as_wanted; inside = k.inside }
 
-    pub behind-read : {x : Number} → number_at s (at + 1) ≡ x → next_number s at wanted ≡ x
+    pub behind-read : {x : Read ℕ} → number_at s (at + 1) ≡ x → next_number s at wanted ≡ x
     behind-read e = next-wanted s at w ∙ (behind ∙ e)
 
 -- the three numbers of a line, one after the other
@@ -291,50 +285,58 @@ module _ (s : List ℕ) (at : ℕ) (k : KnownLine s at) where
   pub first-known : KnownNext s (at + 1) true
   first-known = record { value = chain.first; next = chain.n; is = chain.one; inside = chain.one_inside }
 
-  module _ {count : ℕ} (counted : count ≡ numbers_after (get_or s at 0)) {a : Read} (one : next_number s (at + 1) true ≡ value_read a) where
-    abbrev after_one : Value chain.first chain.n ≡ value_read a
-    after_one = sym chain.one ∙ one
+  module _ {letter : Letter} (told : letter_of (get_or s at 0) ≡ Some letter) where
+    same-letter : letter ≡ chain.letter
+    same-letter = let e : Some letter ≡ Some chain.letter = sym told ∙ chain.told in cc
 
-    two_is : next_number s a.next (ltb 1 count) ≡ Value chain.second chain.m
-    two_is =
-        ap (λ (i : ℕ). next_number s i (ltb 1 count)) (sym (same_place after_one)) ∙ (ap (λ (i : ℕ). next_number s chain.n (ltb 1 i)) counted ∙ chain.two)
+    module _ {count : ℕ} (counted : count ≡ numbers_after letter) {a : ℕ × ℕ} (one : next_number s (at + 1) true ≡ Ok a) where
+      abbrev count_is : count ≡ numbers_after chain.letter
+      count_is = counted ∙ ap numbers_after same-letter
 
-    pub second-known : KnownNext s a.next (ltb 1 count)
-    second-known = record { value = chain.second; next = chain.m; is = two_is; inside = chain.two-inside }
+      abbrev after_one : got chain.first chain.n ≡ Ok a
+      after_one = sym chain.one ∙ one
 
-    module _ {b : Read} (two : next_number s a.next (ltb 1 count) ≡ value_read b) where
-      abbrev after_two : Value chain.second chain.m ≡ value_read b
-      after_two = sym two_is ∙ two
+      two_is : next_number s a.1 (ltb 1 count) ≡ got chain.second chain.m
+      two_is =
+          ap (λ (i : ℕ). next_number s i (ltb 1 count)) (sym (same_place after_one)) ∙ (ap (λ (i : ℕ). next_number s chain.n (ltb 1 i)) count_is ∙ chain.two)
 
-      three-is : next_number s b.next (ltb 2 count) ≡ Value chain.third chain.l
-      three-is =
-          ap (λ (i : ℕ). next_number s i (ltb 2 count)) (sym (same_place after_two)) ∙ (ap (λ (i : ℕ). next_number s chain.m (ltb 2 i)) counted ∙ chain.three)
+      pub second-known : KnownNext s a.1 (ltb 1 count)
+      second-known = record { value = chain.second; next = chain.m; is = two_is; inside = chain.two-inside }
 
-      pub third-known : KnownNext s b.next (ltb 2 count)
-      third-known = record { value = chain.third; next = chain.l; is = three-is; inside = chain.three-inside }
+      module _ {b : ℕ × ℕ} (two : next_number s a.1 (ltb 1 count) ≡ Ok b) where
+        abbrev after_two : got chain.second chain.m ≡ Ok b
+        after_two = sym two_is ∙ two
 
-      module _ {c : Read} (three : next_number s b.next (ltb 2 count) ≡ value_read c) where
-        abbrev after-three : Value chain.third chain.l ≡ value_read c
-        after-three = sym three-is ∙ three
+        three-is : next_number s b.1 (ltb 2 count) ≡ got chain.third chain.l
+        three-is =
+            ap (λ (i : ℕ). next_number s i (ltb 2 count)) (sym (same_place after_two)) ∙ (ap (λ (i : ℕ). next_number s chain.m (ltb 2 i)) count_is ∙ chain.three)
 
-        pub end_read : Ended s c.next chain.cut k.next
-        end_read = subst (λ (i : ℕ). Ended s i chain.cut k.next) (same_place after-three) chain.end
+        pub third-known : KnownNext s b.1 (ltb 2 count)
+        third-known = record { value = chain.third; next = chain.l; is = three-is; inside = chain.three-inside }
 
-        place_read : {x : Bool} → eqb (get_or s c.next 0) 32 ≡ x → k.next ≡ pick x (c.next + 3) (c.next + 1)
-        place_read told = end_read.place ∙ ap (λ (i : Bool). pick i (c.next + 3) (c.next + 1)) (sym end_read.told ∙ told)
+        module _ {c : ℕ × ℕ} (three : next_number s b.1 (ltb 2 count) ≡ Ok c) where
+          abbrev after-three : got chain.third chain.l ≡ Ok c
+          after-three = sym three-is ∙ three
 
-        -- the whole line, where its end tells whether the step is cut
-        pub line_read : {x : Bool} {y : Step} → eqb (get_or s c.next 0) 32 ≡ x → y ≡ step_of (get_or s at 0) a.value b.value c.value (eqb (get_or s c.next 0) 32)
-            → line_at s at ≡ item y (pick x (c.next + 3) (c.next + 1))
-        line_read {x} {y} told is =
-            k.is
-            ∙ ap₂ item
-            (chain.step
-            ∙ (ap (λ (i : ℕ). step_of (get_or s at 0) i chain.second chain.third chain.cut) (same-value after_one)
-            ∙ (ap (λ (i : ℕ). step_of (get_or s at 0) a.value i chain.third chain.cut) (same-value after_two)
-            ∙ (ap₂ (step_of (get_or s at 0) a.value b.value) (same-value after-three) (sym end_read.told) ∙ sym is))))
-            (place_read told)
+          pub end_read : Ended s c.1 chain.cut k.next
+          end_read = subst (λ (i : ℕ). Ended s i chain.cut k.next) (same_place after-three) chain.end
 
-        -- it stands within the file
-        pub line-inside : {x : Bool} → eqb (get_or s c.next 0) 32 ≡ x → pick x (c.next + 3) (c.next + 1) ≤ length s
-        line-inside told = subst (λ (i : ℕ). i ≤ length s) (place_read told) end_read.high
+          place_read : {x : Bool} → eqb (get_or s c.1 0) 32 ≡ x → k.next ≡ pick x (c.1 + 3) (c.1 + 1)
+          place_read told = end_read.place ∙ ap (λ (i : Bool). pick i (c.1 + 3) (c.1 + 1)) (sym end_read.told ∙ told)
+
+          -- the whole line, where its end tells whether the step is cut
+          pub line_read : {x : Bool} {y : Step} → eqb (get_or s c.1 0) 32 ≡ x → y ≡ step_of letter a.0 b.0 c.0 (eqb (get_or s c.1 0) 32)
+              → line_at s at ≡ got y (pick x (c.1 + 3) (c.1 + 1))
+          line_read {x} {y} told is =
+              k.is
+              ∙ ap₂ got
+              (chain.step
+              ∙ (ap (λ (i : Letter). step_of i chain.first chain.second chain.third chain.cut) (sym same-letter)
+              ∙ (ap (λ (i : ℕ). step_of letter i chain.second chain.third chain.cut) (same-thing after_one)
+              ∙ (ap (λ (i : ℕ). step_of letter a.0 i chain.third chain.cut) (same-thing after_two)
+              ∙ (ap₂ (step_of letter a.0 b.0) (same-thing after-three) (sym end_read.told) ∙ sym is)))))
+              (place_read told)
+
+          -- it stands within the file
+          pub line-inside : {x : Bool} → eqb (get_or s c.1 0) 32 ≡ x → pick x (c.1 + 3) (c.1 + 1) ≤ length s
+          line-inside told = subst (λ (i : ℕ). i ≤ length s) (place_read told) end_read.high

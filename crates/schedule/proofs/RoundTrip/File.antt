@@ -8,21 +8,24 @@ use lib.Dec.{leb}
 use lib.ListN.{length}
 use lib.Seq.{drop-length}
 use borrow.Author.Tests.{le-leb, lt-leb, leb-true, leb-false, eq-eqb}
+use Rattle.std.specs.Prelude.{Result, Ok, Err}
+use Rattle.text.specs.Read.{Read, bad, on_read}
+use Rattle.text.proofs.ReadLaws.{got}
+use Rattle.schedule.specs.declared.fault.Flaw.{Flaw}
+use Rattle.schedule.proofs.Reading.InARow.{rows}
 use Rattle.rules.specs.Limits.{greatest_size, among}
 use Rattle.rules.specs.declared.step.Step.{Step}
 use Rattle.rules.proofs.Cited.{among_in}
 use Rattle.schedule.specs.Limits.{longest, most_steps}
 use Rattle.text.specs.Number.{pick, most}
 use Rattle.text.specs.Stands.{Stands}
-use Rattle.schedule.specs.Lines.{Item, item, Items, broken_at, items, on_items, lines_at, lines_of}
-use Rattle.schedule.specs.Line.{on_number, line_at, line_of, Holdable, Small}
+use Rattle.schedule.specs.Lines.{Rows, broken_at, lines_at, lines_of}
+use Rattle.schedule.specs.Line.{line_at, line_of, Holdable, Small}
 use Rattle.schedule.specs.Header.{header_at, header_of, count_at, values_word, warmup_word, measured_word}
 use Rattle.schedule.specs.Values.{value_at, value_line}
-use Rattle.schedule.specs.Schedule.{Schedule, section_of, file_of, Fits, faulty, sound, fault_at, too_long, Part, no_part, part, part_at, measured_from, warmup_from, values_from, read_file, Size}
+use Rattle.schedule.specs.Schedule.{Schedule, section_of, file_of, Fits, fault_at, too_long, on_rows, part_at, measured_from, warmup_from, values_from, read_file, Size}
 use Rattle.schedule.specs.Lines.{Every}
 use Rattle.schedule.specs.declared.fault.Fault.{Fault}
-use Rattle.text.specs.declared.number.Number.{Number}
-use Rattle.text.specs.declared.number.Number.TheVariants.{Bad, Value}
 use Rattle.text.proofs.StandsLaws.{stands-join, stands-first, stands-rest}
 use Rattle.schedule.proofs.RoundTrip.StepLine.{line-spelled}
 use Rattle.schedule.proofs.RoundTrip.Found.{line_read}
@@ -41,31 +44,31 @@ stands-whole s l p = p.here ∙ ap (λ (t : List ℕ). l ++ t) (drop-length s) �
 -- ---- sections
 
 -- a section that is read stands
-module _ {A : Type 0} (s : List ℕ) (at : ℕ) (w : List ℕ) (f : ℕ → Item A) (P : A → Type 0) (g : A → List ℕ)
-    (read : (i m : ℕ) (x : A) → f i ≡ item x m → P x × Stands s i m (g x)) where
-  pub section-read : (k a m : ℕ) (xs : List A) → header_at s at w ≡ Value k a → lines_at f k 0 a ≡ items xs m
+module _ {A : Type 0} (s : List ℕ) (at : ℕ) (w : List ℕ) (f : ℕ → Read A) (P : A → Type 0) (g : A → List ℕ)
+    (read : (i m : ℕ) (x : A) → f i ≡ got x m → P x × Stands s i m (g x)) where
+  pub section-read : (k a m : ℕ) (xs : List A) → header_at s at w ≡ got k a → lines_at f k 0 a ≡ rows xs m
       → (length xs ≡ k) × Every P xs × Stands s at m (section_of w g xs)
   section-read k a m xs e h =
       let r = lines-read s f g P read xs k 0 a m h in
       let c : k ≡ length xs = sym r.0 in
-      (r.0, r.1, stands-join s at a m (header_of w (length xs)) (lines_of g xs) (header_read s at w a (length xs) (e ∙ ap (λ (i : ℕ). Value i a) c)).1 r.2)
+      (r.0, r.1, stands-join s at a m (header_of w (length xs)) (lines_of g xs) (header_read s at w a (length xs) (e ∙ ap (λ (i : ℕ). got i a) c)).1 r.2)
 
 -- an accepted section of steps
 pub record PartRead (s : List ℕ) (at : ℕ) (w : List ℕ) (left : ℕ) (ss : List Step) (m : ℕ) : Type 0 where
   pub start : ℕ
-  pub header : header_at s at w ≡ Value (length ss) start
-  pub are : lines_at (line_at s) (length ss) 0 start ≡ items ss m
+  pub header : header_at s at w ≡ got (length ss) start
+  pub are : lines_at (line_at s) (length ss) 0 start ≡ rows ss m
   pub few : length ss ≤ left
   pub holds : Every Holdable ss
   pub stands : Stands s at m (section_of w line_of ss)
 
 module _ (s : List ℕ) (at : ℕ) (w : List ℕ) (line left : ℕ) where
-  pub part-got : (ss : List Step) (k a m : ℕ) → header_at s at w ≡ Value k a → k ≤ left → lines_at (line_at s) k 0 a ≡ items ss m → part_at s at w line left ≡ part ss m
+  pub part-got : (ss : List Step) (k a m : ℕ) → header_at s at w ≡ got k a → k ≤ left → lines_at (line_at s) k 0 a ≡ rows ss m → part_at s at w line left ≡ Ok (ss, m)
   unfolding part_at
   part-got ss k a m e h f = rw (e, le-leb k left h, f)
 
   -- a section that stands is read
-  pub part-spelled : (ss : List Step) (m : ℕ) → length ss ≤ left → length ss ≤ most → Every Holdable ss → Stands s at m (section_of w line_of ss) → part_at s at w line left ≡ part ss m
+  pub part-spelled : (ss : List Step) (m : ℕ) → length ss ≤ left → length ss ≤ most → Every Holdable ss → Stands s at m (section_of w line_of ss) → part_at s at w line left ≡ Ok (ss, m)
   part-spelled ss m h g q p =
       let k : ℕ = length ss in
       let a : ℕ = at + length (header_of w k) in
@@ -74,46 +77,46 @@ module _ (s : List ℕ) (at : ℕ) (w : List ℕ) (line left : ℕ) where
 
   -- one that is not read: its first line breaks the form, or has too great a count, or another line breaks the form
   pub data PartFault (f : Fault) : Type 0 where
-    no_header : (p : ℕ) → header_at s at w ≡ Bad p → f ≡ fault_at 9 line at p → PartFault f
-    too_many : (k a : ℕ) → header_at s at w ≡ Value k a → left < k → f ≡ fault_at 10 line at (count_at at w) → PartFault f
-    bad-line : (k a i from p : ℕ) → header_at s at w ≡ Value k a → k ≤ left → lines_at (line_at s) k 0 a ≡ broken_at i from p → f ≡ fault_at 9 (line + 1 + i) from p → PartFault f
+    no_header : (p : ℕ) → header_at s at w ≡ bad p → f ≡ fault_at Flaw.Form line at p → PartFault f
+    too_many : (k a : ℕ) → header_at s at w ≡ got k a → left < k → f ≡ fault_at Flaw.Size line at (count_at at w) → PartFault f
+    bad-line : (k a i from p : ℕ) → header_at s at w ≡ got k a → k ≤ left → lines_at (line_at s) k 0 a ≡ broken_at i from p → f ≡ fault_at Flaw.Form (line + 1 + i) from p → PartFault f
 
-  abbrev pub PartSound : Part → Type 0
-  PartSound (no_part f) = PartFault f
-  PartSound (part ss m) = PartRead s at w left ss m
+  abbrev pub PartSound : Result (List Step × ℕ) Fault → Type 0
+  PartSound (Err f) = PartFault f
+  PartSound (Ok (ss, m)) = PartRead s at w left ss m
 
-  part-made : (k a : ℕ) (ss : List Step) (m : ℕ) → header_at s at w ≡ Value k a → k ≤ left → lines_at (line_at s) k 0 a ≡ items ss m → PartRead s at w left ss m
+  part-made : (k a : ℕ) (ss : List Step) (m : ℕ) → header_at s at w ≡ got k a → k ≤ left → lines_at (line_at s) k 0 a ≡ rows ss m → PartRead s at w left ss m
   part-made k a ss m e h f =
       let r = section-read s at w (line_at s) Holdable line_of (line_read s) k a m ss e f in
       let c : k ≡ length ss = sym r.0 in
       record {
         start = a;
-        header = e ∙ ap (λ (n : ℕ). Value n a) c;
+        header = e ∙ ap (λ (n : ℕ). got n a) c;
         are = ap (λ (n : ℕ). lines_at (line_at s) n 0 a) r.0 ∙ f;
         few = subst (λ (n : ℕ). n ≤ left) c h;
         holds = r.1;
         stands = r.2;
       }
 
-  part-lines : (k a : ℕ) → header_at s at w ≡ Value k a → k ≤ left → (r : Items Step) → lines_at (line_at s) k 0 a ≡ r → PartSound (on_items r (λ i from p. no_part (fault_at 9 (line + 1 + i) from p)) part)
-  part-lines k a e h (broken_at i from p) f = bad-line k a i from p e h f refl
-  part-lines k a e h (items ss m) f = part-made k a ss m e h f
+  part-lines : (k a : ℕ) → header_at s at w ≡ got k a → k ≤ left → (r : Rows Step) → lines_at (line_at s) k 0 a ≡ r → PartSound (on_rows (line + 1) r (λ xs m. Ok (xs, m)))
+  part-lines k a e h (Err broke) f = bad-line k a broke.index broke.from broke.place e h f refl
+  part-lines k a e h (Ok (ss, m)) f = part-made k a ss m e h f
 
-  part_limit : (k a : ℕ) → header_at s at w ≡ Value k a → (x : Bool) → leb k left ≡ x
-      → PartSound (pick x (on_items (lines_at (line_at s) k 0 a) (λ i from p. no_part (fault_at 9 (line + 1 + i) from p)) part) (no_part (fault_at 10 line at (count_at at w))))
+  part_limit : (k a : ℕ) → header_at s at w ≡ got k a → (x : Bool) → leb k left ≡ x
+      → PartSound (pick x (on_rows (line + 1) (lines_at (line_at s) k 0 a) (λ xs m. Ok (xs, m))) (Err (fault_at Flaw.Size line at (count_at at w))))
   part_limit k a e false h = too_many k a e (leb-false k left h) refl
   part_limit k a e true h = part-lines k a e (leb-true k left h) (lines_at (line_at s) k 0 a) refl
 
-  part-header : (r : Number) → header_at s at w ≡ r → PartSound (on_number r (λ p. no_part (fault_at 9 line at p))
-      (λ k a. pick (leb k left) (on_items (lines_at (line_at s) k 0 a) (λ i from p. no_part (fault_at 9 (line + 1 + i) from p)) part) (no_part (fault_at 10 line at (count_at at w)))))
-  part-header (Bad p) e = no_header p e refl
-  part-header (Value k a) e = part_limit k a e (leb k left) refl
+  part-header : (r : Read ℕ) → header_at s at w ≡ r → PartSound (on_read r (λ p. Err (fault_at Flaw.Form line at p))
+      (λ k a. pick (leb k left) (on_rows (line + 1) (lines_at (line_at s) k 0 a) (λ xs m. Ok (xs, m))) (Err (fault_at Flaw.Size line at (count_at at w)))))
+  part-header (Err p) e = no_header p.place e refl
+  part-header (Ok (k, a)) e = part_limit k a e (leb k left) refl
 
   pub part_sound : PartSound (part_at s at w line left)
   unfolding part_at
   part_sound = part-header (header_at s at w) refl
 
-  pub part-read : (ss : List Step) (m : ℕ) → part_at s at w line left ≡ part ss m → PartRead s at w left ss m
+  pub part-read : (ss : List Step) (m : ℕ) → part_at s at w line left ≡ Ok (ss, m) → PartRead s at w left ss m
   part-read ss m e = subst PartSound e part_sound
 
 -- ---- what is spelled is read
@@ -122,25 +125,25 @@ pub read-got : (s : List ℕ) → length s ≤ longest → read_file s ≡ value
 unfolding read_file
 read-got s h = rw (le-leb (length s) longest h)
 
-pub read-long : (s : List ℕ) → longest < length s → read_file s ≡ faulty too_long
+pub read-long : (s : List ℕ) → longest < length s → read_file s ≡ Err too_long
 unfolding read_file
 read-long s h = rw (lt-leb (length s) longest h)
 
-pub values-got : (s vs : List ℕ) (n a m : ℕ) → header_at s 0 values_word ≡ Value n a → among greatest_size n ≡ true → lines_at (value_at s) n 0 a ≡ items vs m → values_from s ≡ warmup_from s vs m
+pub values-got : (s vs : List ℕ) (n a m : ℕ) → header_at s 0 values_word ≡ got n a → among greatest_size n ≡ true → lines_at (value_at s) n 0 a ≡ rows vs m → values_from s ≡ warmup_from s vs m
 unfolding values_from
 values-got s vs n a m e h f = rw (e, h, f)
 
-pub warmup-got : (s vs : List ℕ) (at m : ℕ) (ws : List Step) → part_at s at warmup_word (length vs + 2) most_steps ≡ part ws m → warmup_from s vs at ≡ measured_from s vs ws m
+pub warmup-got : (s vs : List ℕ) (at m : ℕ) (ws : List Step) → part_at s at warmup_word (length vs + 2) most_steps ≡ Ok (ws, m) → warmup_from s vs at ≡ measured_from s vs ws m
 unfolding warmup_from
 warmup-got s vs at m ws e = rw e
 
-pub measured-got : (s vs : List ℕ) (ws ms : List Step) (at m : ℕ) → part_at s at measured_word (length vs + length ws + 3) (most_steps - length ws) ≡ part ms m → m ≡ length s
-    → measured_from s vs ws at ≡ sound (record { values = vs; warmup = ws; measured = ms })
+pub measured-got : (s vs : List ℕ) (ws ms : List Step) (at m : ℕ) → part_at s at measured_word (length vs + length ws + 3) (most_steps - length ws) ≡ Ok (ms, m) → m ≡ length s
+    → measured_from s vs ws at ≡ Ok (record { values = vs; warmup = ws; measured = ms })
 unfolding measured_from
 measured-got s vs ws ms at m e h = rw (e, eq-eqb m (length s) h)
 
 -- the file of a schedule is read as that schedule
-pub file-spelled : (h : Schedule) → Fits h → read_file (file_of h) ≡ sound h
+pub file-spelled : (h : Schedule) → Fits h → read_file (file_of h) ≡ Ok h
 file-spelled h f =
     let s : List ℕ = file_of h in
     let n : ℕ = length h.values in
@@ -175,7 +178,7 @@ pub record Opened (s vs : List ℕ) (at : ℕ) : Type 0 where
   pub small : Every Small vs
   pub stands : Stands s 0 at (section_of values_word value_line vs)
 
-pub opened : (s : List ℕ) (n a : ℕ) (vs : List ℕ) (m : ℕ) → header_at s 0 values_word ≡ Value n a → Size n → lines_at (value_at s) n 0 a ≡ items vs m → Opened s vs m
+pub opened : (s : List ℕ) (n a : ℕ) (vs : List ℕ) (m : ℕ) → header_at s 0 values_word ≡ got n a → Size n → lines_at (value_at s) n 0 a ≡ rows vs m → Opened s vs m
 opened s n a vs m e h f =
     let r = section-read s 0 values_word (value_at s) Small value_line (value_read s) n a m vs e f in
     record {

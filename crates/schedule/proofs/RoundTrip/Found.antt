@@ -7,21 +7,21 @@ use native.Mathlib.Omega.{arith}
 use lib.Dec.{eqb, ltb}
 use lib.ListN.{get_or}
 use borrow.Author.Tests.{eqb-true}
+use Rattle.std.specs.Prelude.{Option, Some, None, Ok, Err}
+use Rattle.schedule.specs.declared.letter.Letter.{Letter}
+use Rattle.text.specs.Read.{Read, bad, on_read}
+use Rattle.text.proofs.ReadLaws.{got}
 use Rattle.rules.specs.Kinds.{numbers_of, round_of}
 use Rattle.rules.specs.declared.step.Step.{Step}
 use Rattle.rules.specs.declared.step.Step.TheVariants.{Pause}
 use Rattle.text.specs.Number.{pick, number_at, spelled}
 use Rattle.text.specs.Stands.{Stands}
-use Rattle.text.specs.declared.number.Number.{Number}
-use Rattle.text.specs.declared.number.Number.TheVariants.{Bad, Value}
-use Rattle.schedule.specs.Lines.{Every, Item, broken, item}
-use Rattle.schedule.specs.Line.{ending, spaced, line_of, Holdable, numbers_after, may_cut, step_of, on_number, on_end, spaced_at, next_number, end_at, ended_at, after_letter, line_at, Small}
-use Rattle.schedule.specs.declared.line.End.{End}
-use Rattle.schedule.specs.declared.line.End.TheVariants.{NoEnd, Ends}
+use Rattle.schedule.specs.Lines.{Every}
+use Rattle.schedule.specs.Line.{ending, spaced, line_of, Holdable, letter_of, on_letter, numbers_after, may_cut, step_of, spaced_at, next_number, end_at, ended_at, after_letter, line_at, Small}
 use Rattle.text.proofs.StandsLaws.{stands-none, stands-join, stands-byte, stands-cons}
 use Rattle.text.proofs.SpellLaws.{number_read}
 use Rattle.text.proofs.StopLaws.{Begins, begins-none, begins-longer, begins-after, number-begins}
-use Rattle.schedule.proofs.RoundTrip.StepLine.{wanted_text, WantedSmall, CutOnly, body_of, Body, Letter, letter}
+use Rattle.schedule.proofs.RoundTrip.StepLine.{wanted_text, WantedSmall, CutOnly, body_of, Body, byte_of, Lettered, lettered, letter_byte}
 
 -- the text from at up to p is the beginning of what f spells of a thing
 pub record Begun {A : Type 0} (P : A → Type 0) (f : A → List ℕ) (s : List ℕ) (at p : ℕ) : Type 0 where
@@ -58,24 +58,24 @@ module _ (s : List ℕ) where
   head-begins {at = at} p l h b = subst (Begins s at p) (sym (h.is l)) (begins-after h.stands b)
 
   -- what stands of a number that is bad begins one, whatever follows
-  abbrev pub Form : (ℕ → Type 0) → (ℕ → List ℕ → List ℕ) → ℕ → Number → Type 0
-  Form P f at (Bad p) = (l : List ℕ) → Begun P (λ v. f v l) s at p
-  Form P f at (Value v n) = P v × Head (f v) at n
+  abbrev pub Form : (ℕ → Type 0) → (ℕ → List ℕ → List ℕ) → ℕ → Read ℕ → Type 0
+  Form P f at (Err p) = (l : List ℕ) → Begun P (λ v. f v l) s at p.place
+  Form P f at (Ok (v, n)) = P v × Head (f v) at n
 
   abbrev pub plainly : ℕ → List ℕ → List ℕ
   plainly v l = spelled v ++ l
 
-  pub number-form : (at : ℕ) (r : Number) → number_at s at ≡ r → Form Small plainly at r
-  number-form at (Bad p) e = λ l. let b = number-begins s at p e in record { thing = b.value; holds = b.small; begins = begins-longer l b.begins }
-  number-form at (Value v n) e = let r = number_read s at v n e in (r.small, record { head = spelled v; stands = r.stands; is = λ l. refl })
+  pub number-form : (at : ℕ) (r : Read ℕ) → number_at s at ≡ r → Form Small plainly at r
+  number-form at (Err p) e = λ l. let b = number-begins s at p.place e in record { thing = b.value; holds = b.small; begins = begins-longer l b.begins }
+  number-form at (Ok (v, n)) e = let r = number_read s at v n e in (r.small, record { head = spelled v; stands = r.stands; is = λ l. refl })
 
-  spaced-number : (at : ℕ) → get_or s at 0 ≡ 32 → (r : Number) → Form Small plainly (at + 1) r → Form Small spaced at r
-  spaced-number at e (Bad p) h = λ l. begun-after (stands-byte s at 32 (omega arith) e) (h l)
-  spaced-number at e (Value v n) h =
+  spaced-number : (at : ℕ) → get_or s at 0 ≡ 32 → (r : Read ℕ) → Form Small plainly (at + 1) r → Form Small spaced at r
+  spaced-number at e (Err p) h = λ l. begun-after (stands-byte s at 32 (omega arith) e) (h l)
+  spaced-number at e (Ok (v, n)) h =
       let r = h.1 in
       (h.0, record { head = 32 ∷ r.head; stands = stands-cons s at n 32 r.head (omega arith) e r.stands; is = λ l. ap (λ (t : List ℕ). 32 ∷ t) (r.is l) })
 
-  spaced-pick : (at : ℕ) (x : Bool) → eqb (get_or s at 0) 32 ≡ x → Form Small spaced at (pick x (number_at s (at + 1)) (Bad at))
+  spaced-pick : (at : ℕ) (x : Bool) → eqb (get_or s at 0) 32 ≡ x → Form Small spaced at (pick x (number_at s (at + 1)) (bad at))
   spaced-pick at true e = spaced-number at (eqb-true (get_or s at 0) 32 e) (number_at s (at + 1)) (number-form (at + 1) (number_at s (at + 1)) refl)
   spaced-pick at false e = λ l. begun-none 0 (omega arith)
 
@@ -91,9 +91,9 @@ module _ (s : List ℕ) where
   -- ---- a step line
 
   -- what is read as a line's end is one, and what stands of one that breaks the form begins one; a step that may not be cut is not
-  abbrev EndForm : ℕ → Bool → End → Type 0
-  EndForm at may (NoEnd p) = Begun (CutOnly may) ending s at p
-  EndForm at may (Ends x m) = CutOnly may x × Stands s at m (ending x)
+  abbrev EndForm : ℕ → Bool → Read Bool → Type 0
+  EndForm at may (Err p) = Begun (CutOnly may) ending s at p.place
+  EndForm at may (Ok (x, m)) = CutOnly may x × Stands s at m (ending x)
 
   uncut : (may : Bool) → CutOnly may false
   uncut true = tt
@@ -101,7 +101,7 @@ module _ (s : List ℕ) where
 
   -- behind a space and `X`
   cut-pick : (at : ℕ) → get_or s at 0 ≡ 32 → get_or s (at + 1) 0 ≡ 88 → (w : Bool) → eqb (get_or s (at + 2) 0) 10 ≡ w
-      → EndForm at true (pick w (Ends true (at + 3)) (NoEnd (at + 2)))
+      → EndForm at true (pick w (got true (at + 3)) (bad (at + 2)))
   cut-pick at f g w h = go w h
     where
       space : Stands s at (at + 1) (32 ∷ [])
@@ -110,7 +110,7 @@ module _ (s : List ℕ) where
       both : Stands s at (at + 2) (32 ∷ 88 ∷ [])
       both = subst (λ (m : ℕ). Stands s at m (32 ∷ 88 ∷ [])) (omega arith) (stands-join s at (at + 1) (at + 1 + 1) (32 ∷ []) (88 ∷ []) space (stands-byte s (at + 1) 88 (omega arith) g))
 
-      go : (w : Bool) → eqb (get_or s (at + 2) 0) 10 ≡ w → EndForm at true (pick w (Ends true (at + 3)) (NoEnd (at + 2)))
+      go : (w : Bool) → eqb (get_or s (at + 2) 0) 10 ≡ w → EndForm at true (pick w (got true (at + 3)) (bad (at + 2)))
       go false h = record { thing = true; holds = tt; begins = begins-after both (begins-none s (at + 2) (10 ∷ [])) }
       go true h = (
         tt,
@@ -120,7 +120,7 @@ module _ (s : List ℕ) where
 
   end_pick : (at : ℕ) (may x : Bool) → eqb (get_or s at 0) 10 ≡ x → (y : Bool) → eqb (get_or s at 0) 32 ≡ y → (z : Bool) → eqb (get_or s (at + 1) 0) 88 ≡ z
       → (w : Bool) → eqb (get_or s (at + 2) 0) 10 ≡ w
-      → EndForm at may (pick x (Ends false (at + 1)) (pick may (pick y (pick z (pick w (Ends true (at + 3)) (NoEnd (at + 2))) (NoEnd (at + 1))) (NoEnd at)) (NoEnd at)))
+      → EndForm at may (pick x (got false (at + 1)) (pick may (pick y (pick z (pick w (got true (at + 3)) (bad (at + 2))) (bad (at + 1))) (bad at)) (bad at)))
   end_pick at may true e y f z g w h = (uncut may, stands-byte s at 10 (omega arith) (eqb-true (get_or s at 0) 10 e))
   end_pick at false false e y f z g w h = begun-none false refl
   end_pick at true false e false f z g w h = begun-none false tt
@@ -133,9 +133,9 @@ module _ (s : List ℕ) where
   unfolding end_at
   end-form at may = end_pick at may (eqb (get_or s at 0) 10) refl (eqb (get_or s at 0) 32) refl (eqb (get_or s (at + 1) 0) 88) refl (eqb (get_or s (at + 2) 0) 10) refl
 
-  abbrev LineForm : ℕ → Item Step → Type 0
-  LineForm at (broken p) = Begun Holdable line_of s at p
-  LineForm at (item st m) = Holdable st × Stands s at m (line_of st)
+  abbrev LineForm : ℕ → Read Step → Type 0
+  LineForm at (Err p) = Begun Holdable line_of s at p.place
+  LineForm at (Ok (st, m)) = Holdable st × Stands s at m (line_of st)
 
   -- a number that is not yet read may be 0
   wanted-zero : (w : Bool) → WantedSmall w 0
@@ -143,66 +143,66 @@ module _ (s : List ℕ) where
   wanted-zero false = refl
 
   -- the letter b at a place, and number by number what follows it. What is not yet read: 0 for each number, and no cut
-  module _ (at b : ℕ) (e : get_or s at 0 ≡ b) (t : Letter b) where
+  module _ (at : ℕ) (b : Letter) (e : get_or s at 0 ≡ byte_of b) (t : Lettered b) where
     abbrev second : Bool
     second = ltb 1 (numbers_after b)
 
     abbrev third : Bool
     third = ltb 2 (numbers_after b)
 
-    abbrev NumberForm : ℕ → Bool → Number → Type 0
+    abbrev NumberForm : ℕ → Bool → Read ℕ → Type 0
     NumberForm n w r = Form (WantedSmall w) (wanted_text w) n r
 
-    lettered : (p i j r : ℕ) (x : Bool) → Body b i j r x → Begins s (at + 1) p (body_of b i j r x) → Begun Holdable line_of s at p
-    lettered p i j r x h g = record {
+    begun-line : (p i j r : ℕ) (x : Bool) → Body b i j r x → Begins s (at + 1) p (body_of b i j r x) → Begun Holdable line_of s at p
+    begun-line p i j r x h g = record {
       thing = step_of b i j r x;
       holds = t.holds i j r x h;
-      begins = subst (Begins s at p) (sym (t.line i j r x h)) (begins-after (stands-byte s at b t.byte e) g);
+      begins = subst (Begins s at p) (sym (t.line i j r x h)) (begins-after (stands-byte s at (byte_of b) (t.some) e) g);
     }
 
-    after-end : (i j r n k l : ℕ) → NumberForm (at + 1) true (Value i n) → NumberForm n second (Value j k) → NumberForm k third (Value r l)
-        → (q : End) → EndForm l (may_cut b) q → LineForm at (on_end q broken (λ x m. item (step_of b i j r x) m))
-    after-end i j r n k l f g h (Ends x m) c =
+    after-end : (i j r n k l : ℕ) → NumberForm (at + 1) true (got i n) → NumberForm n second (got j k) → NumberForm k third (got r l)
+        → (q : Read Bool) → EndForm l (may_cut b) q → LineForm at (on_read q bad (λ x m. got (step_of b i j r x) m))
+    after-end i j r n k l f g h (Ok (x, m)) c =
         let body : Body b i j r x = record { first = f.0; second = g.0; third = h.0; cut = c.0 } in
         let last : List ℕ = wanted_text third r (ending x) in
         let stand : Stands s (at + 1) m (body_of b i j r x) =
         head-stands m (wanted_text second j last) f.1 (head-stands m last g.1 (head-stands m (ending x) h.1 c.1)) in
-        (t.holds i j r x body, subst (Stands s at m) (sym (t.line i j r x body)) (stands-cons s at m b (body_of b i j r x) t.byte e stand))
-    after-end i j r n k l f g h (NoEnd p) c =
+        (t.holds i j r x body, subst (Stands s at m) (sym (t.line i j r x body)) (stands-cons s at m (byte_of b) (body_of b i j r x) t.some e stand))
+    after-end i j r n k l f g h (Err p) c =
         let x : Bool = c.thing in
         let last : List ℕ = wanted_text third r (ending x) in
-        lettered p i j r x (record { first = f.0; second = g.0; third = h.0; cut = c.holds })
-        (head-begins p (wanted_text second j last) f.1 (head-begins p last g.1 (head-begins p (ending x) h.1 c.begins)))
+        begun-line p.place i j r x (record { first = f.0; second = g.0; third = h.0; cut = c.holds })
+        (head-begins p.place (wanted_text second j last) f.1 (head-begins p.place last g.1 (head-begins p.place (ending x) h.1 c.begins)))
 
-    ended-form : (i j r n k l : ℕ) → NumberForm (at + 1) true (Value i n) → NumberForm n second (Value j k) → NumberForm k third (Value r l) → LineForm at (ended_at b i j r s l)
+    ended-form : (i j r n k l : ℕ) → NumberForm (at + 1) true (got i n) → NumberForm n second (got j k) → NumberForm k third (got r l) → LineForm at (ended_at b i j r s l)
     unfolding ended_at
     ended-form i j r n k l f g h = after-end i j r n k l f g h (end_at s l (may_cut b)) (end-form l (may_cut b))
 
-    after-third : (i j n k : ℕ) → NumberForm (at + 1) true (Value i n) → NumberForm n second (Value j k) → (q : Number) → NumberForm k third q
-        → LineForm at (on_number q broken (λ r l. ended_at b i j r s l))
-    after-third i j n k f g (Value r l) h = ended-form i j r n k l f g h
-    after-third i j n k f g (Bad p) h =
+    after-third : (i j n k : ℕ) → NumberForm (at + 1) true (got i n) → NumberForm n second (got j k) → (q : Read ℕ) → NumberForm k third q
+        → LineForm at (on_read q bad (λ r l. ended_at b i j r s l))
+    after-third i j n k f g (Ok (r, l)) h = ended-form i j r n k l f g h
+    after-third i j n k f g (Err p) h =
         let c = h (ending false) in
         let last : List ℕ = wanted_text third c.thing (ending false) in
-        lettered p i j c.thing false (record { first = f.0; second = g.0; third = c.holds; cut = uncut (may_cut b) })
-        (head-begins p (wanted_text second j last) f.1 (head-begins p last g.1 c.begins))
+        begun-line p.place i j c.thing false (record { first = f.0; second = g.0; third = c.holds; cut = uncut (may_cut b) })
+        (head-begins p.place (wanted_text second j last) f.1 (head-begins p.place last g.1 c.begins))
 
-    after-second : (i n : ℕ) → NumberForm (at + 1) true (Value i n) → (q : Number) → NumberForm n second q
-        → LineForm at (on_number q broken (λ j k. on_number (next_number s k third) broken (λ r l. ended_at b i j r s l)))
-    after-second i n f (Value j k) g = after-third i j n k f g (next_number s k third) (next-form k third)
-    after-second i n f (Bad p) g =
+    after-second : (i n : ℕ) → NumberForm (at + 1) true (got i n) → (q : Read ℕ) → NumberForm n second q
+        → LineForm at (on_read q bad (λ j k. on_read (next_number s k third) bad (λ r l. ended_at b i j r s l)))
+    after-second i n f (Ok (j, k)) g = after-third i j n k f g (next_number s k third) (next-form k third)
+    after-second i n f (Err p) g =
         let last : List ℕ = wanted_text third 0 (ending false) in
         let c = g last in
-        lettered p i c.thing 0 false (record { first = f.0; second = c.holds; third = wanted-zero third; cut = uncut (may_cut b) })
-        (head-begins p (wanted_text second c.thing last) f.1 c.begins)
+        begun-line p.place i c.thing 0 false (record { first = f.0; second = c.holds; third = wanted-zero third; cut = uncut (may_cut b) })
+        (head-begins p.place (wanted_text second c.thing last) f.1 c.begins)
 
-    after_first : (q : Number) → NumberForm (at + 1) true q
-        → LineForm at (on_number q broken (λ i n. on_number (next_number s n second) broken
-        (λ j k. on_number (next_number s k third) broken (λ r l. ended_at b i j r s l))))
-    after_first (Value i n) f = after-second i n f (next_number s n second) (next-form n second)
-    after_first (Bad p) f =
+    after_first : (q : Read ℕ) → NumberForm (at + 1) true q
+        → LineForm at (on_read q bad (λ i n. on_read (next_number s n second) bad
+        (λ j k. on_read (next_number s k third) bad (λ r l. ended_at b i j r s l))))
+    after_first (Ok (i, n)) f = after-second i n f (next_number s n second) (next-form n second)
+    after_first (Err p) f =
         let c = f (wanted_text second 0 (wanted_text third 0 (ending false))) in
-        lettered p c.thing 0 0 false (record { first = c.holds; second = wanted-zero second; third = wanted-zero third; cut = uncut (may_cut b) }) c.begins
+        begun-line p.place c.thing 0 0 false (record { first = c.holds; second = wanted-zero second; third = wanted-zero third; cut = uncut (may_cut b) }) c.begins
 
     after-form : LineForm at (after_letter b s (at + 1))
     unfolding after_letter
@@ -212,17 +212,17 @@ module _ (s : List ℕ) where
   unfolding numbers_of round_of Every
   no-letter at = begun-none (Pause 0) ((omega arith, tt), omega arith)
 
-  line-pick : (at b : ℕ) → get_or s at 0 ≡ b → (x : Bool) → eqb (numbers_after b) 0 ≡ x → LineForm at (pick x (broken at) (after_letter b s (at + 1)))
-  line-pick at b e true n = no-letter at
-  line-pick at b e false n = after-form at b e (letter b n)
+  line-letter : (at : ℕ) (o : Option Letter) → letter_of (get_or s at 0) ≡ o → LineForm at (on_letter o (bad at) (λ b. after_letter b s (at + 1)))
+  line-letter at None e = no-letter at
+  line-letter at (Some b) e = after-form at b (letter_byte (get_or s at 0) b e) (lettered b)
 
   line-form : (at : ℕ) → LineForm at (line_at s at)
   unfolding line_at
-  line-form at = line-pick at (get_or s at 0) refl (eqb (numbers_after (get_or s at 0)) 0) refl
+  line-form at = line-letter at (letter_of (get_or s at 0)) refl
 
-  pub line-begins : (at p : ℕ) → line_at s at ≡ broken p → Begun Holdable line_of s at p
+  pub line-begins : (at p : ℕ) → line_at s at ≡ bad p → Begun Holdable line_of s at p
   line-begins at p e = subst (LineForm at) e (line-form at)
 
   -- whatever is read as a step, from one place up to another, is the line of that step
-  pub line_read : (at m : ℕ) (st : Step) → line_at s at ≡ item st m → Holdable st × Stands s at m (line_of st)
+  pub line_read : (at m : ℕ) (st : Step) → line_at s at ≡ got st m → Holdable st × Stands s at m (line_of st)
   line_read at m st e = subst (LineForm at) e (line-form at)

@@ -7,17 +7,17 @@ use native.Mathlib.Omega.{arith}
 use lib.Dec.{eqb, ltb}
 use lib.ListN.{length, get_or}
 use borrow.Author.Tests.{eqb-true, lt-ltb}
+use Rattle.std.specs.Prelude.{Option, Some, None}
+use Rattle.schedule.specs.declared.letter.Letter.{Letter}
+use Rattle.text.specs.Read.{Read}
+use Rattle.text.proofs.ReadLaws.{got}
 use Rattle.rules.specs.declared.step.Step.{Step}
 use Rattle.rules.specs.declared.step.Step.TheVariants.{DeliverE, DeliverS, DeliverF, DeliverDecision, Suspect, Pause, Crash, Recover}
 use Rattle.text.specs.Number.{pick, is_digit, most, spelled}
 use Rattle.text.specs.Stands.{Stands}
-use Rattle.schedule.specs.Lines.{item}
 use Rattle.rules.specs.Kinds.{numbers_of, round_of}
 use Rattle.schedule.specs.Lines.{Every}
-use Rattle.schedule.specs.Line.{ending, spaced, line_of, Holdable, numbers_after, may_cut, step_of, spaced_at, next_number, end_at, ended_at, after_letter, line_at}
-use Rattle.schedule.specs.declared.line.End.TheVariants.{Ends}
-use Rattle.text.specs.declared.number.Number.{Number}
-use Rattle.text.specs.declared.number.Number.TheVariants.{Value}
+use Rattle.schedule.specs.Line.{letter_e, letter_s, letter_f, letter_z, letter_q, letter_p, letter_c, letter_r, ending, spaced, line_of, Holdable, letter_of, numbers_after, may_cut, step_of, spaced_at, next_number, end_at, ended_at, after_letter, line_at}
 use Rattle.schedule.proofs.Reading.Cases.{spaced-is, next-wanted, next-none, end-plain, end-cut}
 use Rattle.text.proofs.StandsLaws.{stands-first, stands-rest, byte-stands, stands-tail}
 use Rattle.text.proofs.SpellLaws.{number_spelled}
@@ -39,75 +39,61 @@ abbrev pub CutOnly : Bool → Bool → Type 0
 CutOnly true x = Unit {0}
 CutOnly false x = x ≡ false
 
-abbrev pub body_of : ℕ → ℕ → ℕ → ℕ → Bool → List ℕ
+abbrev pub body_of : Letter → ℕ → ℕ → ℕ → Bool → List ℕ
 body_of b i j r x = spaced i (wanted_text (ltb 1 (numbers_after b)) j (wanted_text (ltb 2 (numbers_after b)) r (ending x)))
 
 -- the numbers and the cut that a letter takes
-pub record Body (b i j r : ℕ) (x : Bool) : Type 0 where
+pub record Body (b : Letter) (i j r : ℕ) (x : Bool) : Type 0 where
   pub first : i ≤ most
   pub second : WantedSmall (ltb 1 (numbers_after b)) j
   pub third : WantedSmall (ltb 2 (numbers_after b)) r
   pub cut : CutOnly (may_cut b) x
 
--- a step's letter: the step that is made of it with its numbers is one that a file can hold, and its line is the letter and those numbers
-pub record Letter (b : ℕ) : Type 0 where
-  pub byte : 0 < b
+-- the byte of a letter
+unfoldable pub byte_of : Letter → ℕ
+byte_of Letter.E = letter_e
+byte_of Letter.S = letter_s
+byte_of Letter.F = letter_f
+byte_of Letter.Z = letter_z
+byte_of Letter.Q = letter_q
+byte_of Letter.P = letter_p
+byte_of Letter.C = letter_c
+byte_of Letter.R = letter_r
+
+-- of a letter: the step that is made of it with its numbers is one that a file can hold, and its line is the letter's byte and those numbers
+pub record Lettered (b : Letter) : Type 0 where
+  pub some : 0 < byte_of b
+  pub told : letter_of (byte_of b) ≡ Some b
   pub holds : (i j r : ℕ) (x : Bool) → Body b i j r x → Holdable (step_of b i j r x)
-  pub line : (i j r : ℕ) (x : Bool) → Body b i j r x → line_of (step_of b i j r x) ≡ b ∷ body_of b i j r x
+  pub line : (i j r : ℕ) (x : Bool) → Body b i j r x → line_of (step_of b i j r x) ≡ byte_of b ∷ body_of b i j r x
 
-three-69 : Letter 69
-unfolding numbers_after may_cut step_of Every numbers_of round_of
-three-69 = record { byte = omega arith; holds = λ i j r x h. ((h.first, (h.second, tt)), h.third); line = λ i j r x h. refl }
+pub lettered : (b : Letter) → Lettered b
+unfolding byte_of letter_of numbers_after may_cut step_of Every numbers_of round_of
+lettered Letter.E = record { some = omega arith; told = refl; holds = λ i j r x h. ((h.first, (h.second, tt)), h.third); line = λ i j r x h. refl }
+lettered Letter.S = record { some = omega arith; told = refl; holds = λ i j r x h. ((h.first, (h.second, tt)), h.third); line = λ i j r x h. refl }
+lettered Letter.F = record { some = omega arith; told = refl; holds = λ i j r x h. ((h.first, (h.second, tt)), h.third); line = λ i j r x h. refl }
+lettered Letter.Z = record { some = omega arith; told = refl; holds = λ i j r x h. ((h.first, (h.second, tt)), omega arith); line = λ i j r x h. refl }
+lettered Letter.Q = record { some = omega arith; told = refl; holds = λ i j r x h. ((h.first, tt), omega arith); line = λ i j r x h. refl }
+lettered Letter.P = record { some = omega arith; told = refl; holds = λ i j r x h. ((h.first, tt), omega arith); line = λ i j r x h. ap (λ (y : Bool). 80 ∷ spaced i (ending y)) (sym h.cut) }
+lettered Letter.C = record { some = omega arith; told = refl; holds = λ i j r x h. ((h.first, tt), omega arith); line = λ i j r x h. ap (λ (y : Bool). 67 ∷ spaced i (ending y)) (sym h.cut) }
+lettered Letter.R = record { some = omega arith; told = refl; holds = λ i j r x h. ((h.first, tt), omega arith); line = λ i j r x h. ap (λ (y : Bool). 82 ∷ spaced i (ending y)) (sym h.cut) }
 
-three-83 : Letter 83
-unfolding numbers_after may_cut step_of Every numbers_of round_of
-three-83 = record { byte = omega arith; holds = λ i j r x h. ((h.first, (h.second, tt)), h.third); line = λ i j r x h. refl }
-
-three-70 : Letter 70
-unfolding numbers_after may_cut step_of Every numbers_of round_of
-three-70 = record { byte = omega arith; holds = λ i j r x h. ((h.first, (h.second, tt)), h.third); line = λ i j r x h. refl }
-
-two-90 : Letter 90
-unfolding numbers_after may_cut step_of Every numbers_of round_of
-two-90 = record { byte = omega arith; holds = λ i j r x h. ((h.first, (h.second, tt)), omega arith); line = λ i j r x h. refl }
-
-one-81 : Letter 81
-unfolding numbers_after may_cut step_of Every numbers_of round_of
-one-81 = record { byte = omega arith; holds = λ i j r x h. ((h.first, tt), omega arith); line = λ i j r x h. refl }
-
-one-80 : Letter 80
-unfolding numbers_after may_cut step_of Every numbers_of round_of
-one-80 = record { byte = omega arith; holds = λ i j r x h. ((h.first, tt), omega arith); line = λ i j r x h. ap (λ (y : Bool). 80 ∷ spaced i (ending y)) (sym h.cut) }
-
-one-67 : Letter 67
-unfolding numbers_after may_cut step_of Every numbers_of round_of
-one-67 = record { byte = omega arith; holds = λ i j r x h. ((h.first, tt), omega arith); line = λ i j r x h. ap (λ (y : Bool). 67 ∷ spaced i (ending y)) (sym h.cut) }
-
-one-82 : Letter 82
-unfolding numbers_after may_cut step_of Every numbers_of round_of
-one-82 = record { byte = omega arith; holds = λ i j r x h. ((h.first, tt), omega arith); line = λ i j r x h. ap (λ (y : Bool). 82 ∷ spaced i (ending y)) (sym h.cut) }
-
--- a byte is the letter k or another
-or-other : (b k : ℕ) → Letter k → (eqb b k ≡ false → Letter b) → Letter b
-or-other b k h f = go (eqb b k) refl
+-- a byte that is a letter is its byte
+tested : (c k : ℕ) (x : Letter) {b : Letter} {o : Option Letter} → byte_of x ≡ k → (o ≡ Some b → c ≡ byte_of b) → pick (eqb c k) (Some x) o ≡ Some b → c ≡ byte_of b
+tested c k x {b} {o} e f = go (eqb c k) refl
   where
-    go : (x : Bool) → eqb b k ≡ x → Letter b
-    go true e = subst Letter (sym (eqb-true b k e)) h
-    go false e = f e
+    go : (t : Bool) → eqb c k ≡ t → pick t (Some x) o ≡ Some b → c ≡ byte_of b
+    go true p q = let same : x ≡ b = cc in eqb-true c k p ∙ sym e ∙ ap byte_of same
+    go false p q = f q
 
-none_after : (b : ℕ) → eqb b 69 ≡ false → eqb b 83 ≡ false → eqb b 70 ≡ false → eqb b 90 ≡ false → eqb b 81 ≡ false → eqb b 80 ≡ false → eqb b 67 ≡ false → eqb b 82 ≡ false
-    → numbers_after b ≡ 0
-unfolding numbers_after
-none_after b e s f z q p c r = rw (e, s, f, z, q, p, c, r)
+none-some : {b : Letter} → None ≡ Some b → ⊥
+none-some e = let u : ◌≡◌ {A = ℕ} 0 1 = cc in omega arith
 
--- every byte after which numbers are wanted is a step's letter
-pub letter : (b : ℕ) → eqb (numbers_after b) 0 ≡ false → Letter b
-letter b n =
-    or-other b 69 three-69 (λ e. or-other b 83 three-83 (λ s. or-other b 70 three-70 (λ f. or-other b 90 two-90 (λ z.
-    or-other b 81 one-81 (λ q. or-other b 80 one-80 (λ p. or-other b 67 one-67 (λ c. or-other b 82 one-82 (λ r.
-    let none : numbers_after b ≡ 0 = none_after b e s f z q p c r in
-    let no : true ≡ false = sym (ap (λ (k : ℕ). eqb k 0) none) ∙ n in
-    let u : ◌≡◌ {A = ℕ} 0 1 = ap (λ (x : Bool). pick x 0 1) no in absurd (omega arith)))))))))
+pub letter_byte : (c : ℕ) (b : Letter) → letter_of c ≡ Some b → c ≡ byte_of b
+unfolding letter_of byte_of
+letter_byte c b e =
+    tested c 69 Letter.E refl (tested c 83 Letter.S refl (tested c 70 Letter.F refl (tested c 90 Letter.Z refl
+    (tested c 81 Letter.Q refl (tested c 80 Letter.P refl (tested c 67 Letter.C refl (tested c 82 Letter.R refl (λ n. absurd (none-some n))))))))) e
 
 -- ---- what is spelled is read
 
@@ -115,14 +101,14 @@ not_digit : (b : ℕ) → b < 48 → is_digit b ≡ false
 unfolding is_digit
 not_digit b h = rw (lt-ltb b 48 h)
 
-after-got : (b : ℕ) (s : List ℕ) (at n k l e i j r : ℕ) (x : Bool) → next_number s at true ≡ Value i n → next_number s n (ltb 1 (numbers_after b)) ≡ Value j k
-    → next_number s k (ltb 2 (numbers_after b)) ≡ Value r l → end_at s l (may_cut b) ≡ Ends x e → after_letter b s at ≡ item (step_of b i j r x) e
+after-got : (b : Letter) (s : List ℕ) (at n k l e i j r : ℕ) (x : Bool) → next_number s at true ≡ got i n → next_number s n (ltb 1 (numbers_after b)) ≡ got j k
+    → next_number s k (ltb 2 (numbers_after b)) ≡ got r l → end_at s l (may_cut b) ≡ got x e → after_letter b s at ≡ got (step_of b i j r x) e
 unfolding after_letter ended_at
 after-got b s at n k l e i j r x p q t u = rw (p, q, t, u)
 
-line-letter : (s : List ℕ) (at b : ℕ) → get_or s at 0 ≡ b → eqb (numbers_after b) 0 ≡ false → line_at s at ≡ after_letter b s (at + 1)
+line-letter : (s : List ℕ) (at : ℕ) (b : Letter) → letter_of (get_or s at 0) ≡ Some b → line_at s at ≡ after_letter b s (at + 1)
 unfolding line_at
-line-letter s at b e n = rw (e, n)
+line-letter s at b e = rw e
 
 module _ (s : List ℕ) where
   -- where l stands, up to m, no digit does
@@ -141,9 +127,9 @@ module _ (s : List ℕ) where
   quiet-wanted m v l false q = q
 
   -- after a space and a number: where the rest of the line stands
-  pub record Next (at m v : ℕ) (l : List ℕ) (found : Number) : Type 0 where
+  pub record Next (at m v : ℕ) (l : List ℕ) (found : Read ℕ) : Type 0 where
     pub place : ℕ
-    pub read : found ≡ Value v place
+    pub read : found ≡ got v place
     pub rest : Stands s place m l
 
   pub spaced-spelled : (at m v : ℕ) (l : List ℕ) → v ≤ most → Quiet m l → Stands s at m (spaced v l) → Next at m v l (spaced_at s at)
@@ -162,18 +148,18 @@ module _ (s : List ℕ) where
   next-spelled at m v l true h stop p =
       let k = spaced-spelled at m v l h stop p in
       record { place = k.place; read = next-wanted s at refl ∙ k.read; rest = k.rest }
-  next-spelled at m v l false h stop p = record { place = at; read = next-none s at refl ∙ ap (λ (u : ℕ). Value u at) (sym h); rest = p }
+  next-spelled at m v l false h stop p = record { place = at; read = next-none s at refl ∙ ap (λ (u : ℕ). got u at) (sym h); rest = p }
 
-  end-spelled : (at m : ℕ) (x may : Bool) → CutOnly may x → Stands s at m (ending x) → end_at s at may ≡ Ends x m
-  end-spelled at m false may c p = end-plain s at may (byte-stands s at m 10 [] p) ∙ ap (Ends false) (sym p.end)
+  end-spelled : (at m : ℕ) (x may : Bool) → CutOnly may x → Stands s at m (ending x) → end_at s at may ≡ got x m
+  end-spelled at m false may c p = end-plain s at may (byte-stands s at m 10 [] p) ∙ ap (got false) (sym p.end)
   end-spelled at m true false c p = let u : ◌≡◌ {A = ℕ} 0 1 = ap (λ (x : Bool). pick x 0 1) c in absurd (omega arith)
   end-spelled at m true true c p =
       let q = stands-tail s at m 32 (88 ∷ 10 ∷ []) p in
       let r = stands-tail s (at + 1) m 88 (10 ∷ []) q in
       end-cut s at refl (byte-stands s at m 32 (88 ∷ 10 ∷ []) p) (byte-stands s (at + 1) m 88 (10 ∷ []) q)
-      (ap (λ (k : ℕ). get_or s k 0) (omega arith) ∙ byte-stands s (at + 1 + 1) m 10 [] r) ∙ ap (Ends true) (sym p.end)
+      (ap (λ (k : ℕ). get_or s k 0) (omega arith) ∙ byte-stands s (at + 1 + 1) m 10 [] r) ∙ ap (got true) (sym p.end)
 
-  after-spelled : (b at m i j r : ℕ) (x : Bool) → Body b i j r x → Stands s at m (body_of b i j r x) → after_letter b s at ≡ item (step_of b i j r x) m
+  after-spelled : (b : Letter) (at m i j r : ℕ) (x : Bool) → Body b i j r x → Stands s at m (body_of b i j r x) → after_letter b s at ≡ got (step_of b i j r x) m
   after-spelled b at m i j r x h p =
       let second : Bool = ltb 1 (numbers_after b) in
       let third : Bool = ltb 2 (numbers_after b) in
@@ -183,18 +169,21 @@ module _ (s : List ℕ) where
       let w = next-spelled v.place m r (ending x) third h.third (quiet-ending m x) v.rest in
       after-got b s at u.place v.place w.place m i j r x u.read v.read w.read (end-spelled w.place m x (may_cut b) h.cut w.rest)
 
-  lettered : (b at m i j r : ℕ) (x : Bool) → eqb (numbers_after b) 0 ≡ false → Body b i j r x → Stands s at m (b ∷ body_of b i j r x) → line_at s at ≡ item (step_of b i j r x) m
-  lettered b at m i j r x n h p =
-      line-letter s at b (byte-stands s at m b (body_of b i j r x) p) n ∙ after-spelled b (at + 1) m i j r x h (stands-tail s at m b (body_of b i j r x) p)
+  line-made : (b : Letter) (at m i j r : ℕ) (x : Bool) → Body b i j r x → Stands s at m (line_of (step_of b i j r x)) → line_at s at ≡ got (step_of b i j r x) m
+  line-made b at m i j r x h p =
+      let t = lettered b in
+      let q : Stands s at m (byte_of b ∷ body_of b i j r x) = subst (Stands s at m) (t.line i j r x h) p in
+      line-letter s at b (ap letter_of (byte-stands s at m (byte_of b) (body_of b i j r x) q) ∙ t.told)
+      ∙ after-spelled b (at + 1) m i j r x h (stands-tail s at m (byte_of b) (body_of b i j r x) q)
 
   -- the line of a step is read as that step, up to its end
-  pub line-spelled : (at m : ℕ) (st : Step) → Holdable st → Stands s at m (line_of st) → line_at s at ≡ item st m
+  pub line-spelled : (at m : ℕ) (st : Step) → Holdable st → Stands s at m (line_of st) → line_at s at ≡ got st m
   unfolding numbers_after may_cut step_of Every numbers_of round_of
-  line-spelled at m (DeliverE i j r x) h p = lettered 69 at m i j r x refl (record { first = h.0.0; second = h.0.1.0; third = h.1; cut = tt }) p
-  line-spelled at m (DeliverS i j r x) h p = lettered 83 at m i j r x refl (record { first = h.0.0; second = h.0.1.0; third = h.1; cut = tt }) p
-  line-spelled at m (DeliverF i j r x) h p = lettered 70 at m i j r x refl (record { first = h.0.0; second = h.0.1.0; third = h.1; cut = tt }) p
-  line-spelled at m (DeliverDecision i j x) h p = lettered 90 at m i j 0 x refl (record { first = h.0.0; second = h.0.1.0; third = refl; cut = tt }) p
-  line-spelled at m (Suspect i x) h p = lettered 81 at m i 0 0 x refl (record { first = h.0.0; second = refl; third = refl; cut = tt }) p
-  line-spelled at m (Pause i) h p = lettered 80 at m i 0 0 false refl (record { first = h.0.0; second = refl; third = refl; cut = refl }) p
-  line-spelled at m (Crash i) h p = lettered 67 at m i 0 0 false refl (record { first = h.0.0; second = refl; third = refl; cut = refl }) p
-  line-spelled at m (Recover i) h p = lettered 82 at m i 0 0 false refl (record { first = h.0.0; second = refl; third = refl; cut = refl }) p
+  line-spelled at m (DeliverE i j r x) h p = line-made Letter.E at m i j r x (record { first = h.0.0; second = h.0.1.0; third = h.1; cut = tt }) p
+  line-spelled at m (DeliverS i j r x) h p = line-made Letter.S at m i j r x (record { first = h.0.0; second = h.0.1.0; third = h.1; cut = tt }) p
+  line-spelled at m (DeliverF i j r x) h p = line-made Letter.F at m i j r x (record { first = h.0.0; second = h.0.1.0; third = h.1; cut = tt }) p
+  line-spelled at m (DeliverDecision i j x) h p = line-made Letter.Z at m i j 0 x (record { first = h.0.0; second = h.0.1.0; third = refl; cut = tt }) p
+  line-spelled at m (Suspect i x) h p = line-made Letter.Q at m i 0 0 x (record { first = h.0.0; second = refl; third = refl; cut = tt }) p
+  line-spelled at m (Pause i) h p = line-made Letter.P at m i 0 0 false (record { first = h.0.0; second = refl; third = refl; cut = refl }) p
+  line-spelled at m (Crash i) h p = line-made Letter.C at m i 0 0 false (record { first = h.0.0; second = refl; third = refl; cut = refl }) p
+  line-spelled at m (Recover i) h p = line-made Letter.R at m i 0 0 false (record { first = h.0.0; second = refl; third = refl; cut = refl }) p

@@ -5,6 +5,9 @@ use mathlib.Core.List.{List, [], ◌∷◌}
 use native.Mathlib.Omega.{arith}
 use Prim.Native.Nat.{ℕ, ◌+◌, ◌-◌, ◌*◌, ◌≤◌, ◌<◌}
 use lib.ListN.{length}
+use Rattle.std.specs.Prelude.{Ok}
+use Rattle.text.proofs.ReadLaws.{same-thing, same_place}
+use Rattle.schedule.proofs.Reading.InARow.{rows}
 use Rattle.rules.specs.Tally.{bit_of}
 use Rattle.rules.specs.Layout.{Sized}
 use Rattle.rules.specs.Answers.{Said, is_refused, total, Outcome, outcome}
@@ -15,15 +18,14 @@ use Rattle.rules.specs.declared.group.Group.{Group}
 use Rattle.rules.specs.declared.step.Step.{Step}
 use Rattle.rules.proofs.Cited.{safety, deep-sound-step, deep-sized-step, deep-step-length, depths-step-length}
 use Rattle.schedule.specs.Limits.{most_steps}
-use Rattle.schedule.specs.Lines.{items, lines_at}
+use Rattle.schedule.specs.Lines.{lines_at}
 use Rattle.schedule.specs.Line.{line_at}
 use Rattle.schedule.specs.Counts.{none, counts_in}
 use Rattle.schedule.specs.Run.{counts_of}
-use Rattle.schedule.specs.Private.{counted, counted_all, KnownLine, line_read, StepsAt, Room, RunReady, state_with, RanSteps, RanTo}
+use Rattle.schedule.specs.Private.{counted, counted_all, KnownLine, StepsAt, Room, RunReady, state_with, RanSteps, RanTo}
 use Rattle.schedule.specs.declared.counts.Counts.{Counts}
-use Rattle.schedule.specs.declared.line.StepRead.{StepRead}
 use Rattle.schedule.proofs.Running.Counts.{counted_is}
-use Rattle.schedule.proofs.Reading.InARow.{First, lines-first, lines_none, one_less, same-thing, same_place, same-things}
+use Rattle.schedule.proofs.Reading.InARow.{First, lines-first, lines_none, one_less, same-things}
 
 -- ---- counts of i steps
 
@@ -88,7 +90,7 @@ pub record Going (s : List ℕ) (at count : ℕ) (a₀ a : State) (c : Counts) (
   pub are : StepsAt s count at end all
   pub few : count ≤ most_steps
   pub low : i ≤ count
-  pub left : lines_at (line_at s) (count - i) i here ≡ items rest end
+  pub left : lines_at (line_at s) (count - i) i here ≡ rows rest end
   pub sized : Sized a.group
   pub ready : Ready a.group a.store a.depths
   pub counting : Counting c i
@@ -132,61 +134,61 @@ module _ (s : List ℕ) (at count : ℕ) where
     pub going-room : Room c
     going-room = counting-room c i h.counting (omega (arith, h.few))
 
-    module _ (t : StepRead) (e : line_at s here ≡ line_read t) (a' : State) (x : Said) (o : outcome a'.group a'.store a'.depths x ≡ stepped a.group a.store a.depths t.step) where
-      step_is : ahead.first ≡ t.step
+    module _ (step : Step) (after_it : ℕ) (e : line_at s here ≡ Ok (step, after_it)) (a' : State) (x : Said) (o : outcome a'.group a'.store a'.depths x ≡ stepped a.group a.store a.depths step) where
+      step_is : ahead.first ≡ step
       step_is = same-thing (sym ahead.is ∙ e)
 
-      place_is : ahead.next ≡ t.next
+      place_is : ahead.next ≡ after_it
       place_is = same_place (sym ahead.is ∙ e)
 
-      rest-is : h.rest ≡ t.step ∷ ahead.others
+      rest-is : h.rest ≡ step ∷ ahead.others
       rest-is = ahead.same ∙ ap (λ (y : Step). y ∷ ahead.others) step_is
 
-      next-is : next a t.step ≡ a'
+      next-is : next a step ≡ a'
       unfolding next
       next-is = ap state_of (sym o)
 
-      says_is : (stepped a.group a.store a.depths t.step).says ≡ x
+      says_is : (stepped a.group a.store a.depths step).says ≡ x
       says_is = ap (λ (q : Outcome). q.says) (sym o)
 
-      group-is : (stepped a.group a.store a.depths t.step).group ≡ a'.group
+      group-is : (stepped a.group a.store a.depths step).group ≡ a'.group
       group-is = ap (λ (q : Outcome). q.group) (sym o)
 
-      store_is : (stepped a.group a.store a.depths t.step).store ≡ a'.store
+      store_is : (stepped a.group a.store a.depths step).store ≡ a'.store
       store_is = ap (λ (q : Outcome). q.store) (sym o)
 
-      depths-is : (stepped a.group a.store a.depths t.step).depths ≡ a'.depths
+      depths-is : (stepped a.group a.store a.depths step).depths ≡ a'.depths
       depths-is = ap (λ (q : Outcome). q.depths) (sym o)
 
-      state-on : after a (t.step ∷ ahead.others) ≡ after a' ahead.others
+      state-on : after a (step ∷ ahead.others) ≡ after a' ahead.others
       unfolding after
       state-on = ap (λ (b : State). after b ahead.others) next-is
 
-      counts-on : counted_all c (answers a (t.step ∷ ahead.others)) ≡ counted_all (counted c x) (answers a' ahead.others)
+      counts-on : counted_all c (answers a (step ∷ ahead.others)) ≡ counted_all (counted c x) (answers a' ahead.others)
       unfolding answers counted_all
       counts-on = ap₂ (λ (y : Said) (b : State). counted_all (counted c y) (answers b ahead.others)) says_is next-is
 
       sized_on : Sized a'.group
-      sized_on = subst Sized group-is (deep-sized-step a.group a.store a.depths t.step h.sized)
+      sized_on = subst Sized group-is (deep-sized-step a.group a.store a.depths step h.sized)
 
       sound-on : damaged a'.group ≡ false
-      sound-on = ap damaged (sym group-is) ∙ deep-sound-step a.group a.store a.depths t.step h.sized h.ready.sound
+      sound-on = ap damaged (sym group-is) ∙ deep-sound-step a.group a.store a.depths step h.sized h.ready.sound
 
       length-on : length a'.store ≡ length a.store
-      length-on = ap length (sym store_is) ∙ deep-step-length a.group a.store a.depths t.step
+      length-on = ap length (sym store_is) ∙ deep-step-length a.group a.store a.depths step
 
       deep-length-on : length a'.depths ≡ length a.depths
-      deep-length-on = ap length (sym depths-is) ∙ depths-step-length a.group a.store a.depths t.step
+      deep-length-on = ap length (sym depths-is) ∙ depths-step-length a.group a.store a.depths step
 
       -- a step hands over at most two messages, so at most two again
       sent-two : x.sent ≤ 2
-      sent-two = omega (arith, safety.two a t.step, ap (λ (y : Said). y.sent) says_is)
+      sent-two = omega (arith, safety.two a step, ap (λ (y : Said). y.sent) says_is)
 
       again_two : x.again ≤ 2
-      again_two = omega (arith, safety.two a t.step, ap (λ (y : Said). y.again) says_is)
+      again_two = omega (arith, safety.two a step, ap (λ (y : Said). y.again) says_is)
 
       -- one more step is taken
-      pub going_on : Going s at count a₀ a' (counted c x) (i + 1) t.next
+      pub going_on : Going s at count a₀ a' (counted c x) (i + 1) after_it
       going_on =
           record {
             all = h.all;

@@ -2,12 +2,12 @@
 use mathlib.Core.Path.{◌≡◌, refl, sym, ap, ap₂, ◌∙◌, subst}
 use mathlib.Core.Bool.{Bool, true, false, ◌||◌}
 use mathlib.Core.List.{List, [], ◌∷◌}
-use mathlib.Core.Logic.{◌≢◌}
 use native.Mathlib.Omega.{arith}
 use Prim.Native.Nat.{ℕ, suc, ◌+◌, ◌≤◌}
-use lib.Dec.{eqb, ltb}
+use lib.Dec.{ltb}
 use lib.ListN.{length, take}
-use borrow.Author.Tests.{le-ltb, ltb-false, eqb-false, ne_eqb}
+use borrow.Author.Tests.{le-ltb, ltb-false}
+use Rattle.std.specs.Prelude.{Result, Ok, Err}
 use Rattle.rules.specs.Limits.{greatest_size, store_length}
 use Rattle.rules.specs.Layout.{Sized}
 use Rattle.rules.specs.Refusals.{row, short, miscounted, damaged, start_refusal, refusal}
@@ -18,10 +18,10 @@ use Rattle.rules.specs.Run.{State, state_of, start_state, next, after, answers}
 use Rattle.rules.specs.declared.group.Group.{Group}
 use Rattle.rules.specs.declared.step.Step.{Step}
 use Rattle.rules.proofs.Cited.{or_left, or_right, among_in, deep-keeps, deep-sound-step, deep-sized-step, deep-step-length, depths-step-length, Starting, deep-starting}
-use Rattle.schedule.specs.Schedule.{Schedule, Reading, faulty, sound, read_file, Fits, no_fault}
-use Rattle.schedule.specs.Run.{counts_of, has_run, not_run, run_by, run_of, begins, between}
+use Rattle.schedule.specs.Schedule.{Schedule, Reading, Fits}
+use Rattle.schedule.specs.Run.{counts_of, has_run, run_by, run_of, begins, between}
 use Rattle.schedule.specs.Run.{ran_over}
-use Rattle.schedule.specs.Private.{counted, counted_all, refused_all, FormGood, FormCase, FormIs, RunReady, state_with, RanSteps, RanTo, BothReady, RanBoth, BothRan, SoundRan}
+use Rattle.schedule.specs.Private.{counted, counted_all, refused_all, FormGood, FormIs, RunReady, state_with, RanSteps, RanTo, BothReady, RanBoth, BothRan, SoundRan}
 use Rattle.schedule.specs.declared.counts.Counts.{Counts}
 use Rattle.schedule.specs.declared.fault.Fault.{Fault}
 use Rattle.schedule.specs.declared.file.Form.{Form}
@@ -78,12 +78,11 @@ module _ (s : List ℕ) (p : Places) (g : Group) (l d : List ℕ) (h : BothReady
           few = omega (arith, h.few);
         }
 
-    pub both-ran : (g₂ : Group) (l₂ d₂ : List ℕ) (k : Counts) (f : Fault) → f ≡ no_fault → RanTo s p.middle p.measured g₁ l₁ d₁ g₂ l₂ d₂ k
-        → BothRan s p g l d (record { fault = f; warmup = c; measured = k; group = g₂ }) l₂ d₂
-    both-ran g₂ l₂ d₂ k f e q ws ms a b u v =
+    pub both-ran : (g₂ : Group) (l₂ d₂ : List ℕ) (k : Counts) → RanTo s p.middle p.measured g₁ l₁ d₁ g₂ l₂ d₂ k
+        → BothRan s p g l d (record { warmup = c; measured = k; group = g₂ }) l₂ d₂
+    both-ran g₂ l₂ d₂ k q ws ms a b u v =
         let x = r ws a u in let y = q ms b v in
         record {
-          fault = e;
           warmup = x.counts;
           measured = y.counts ∙ ap (λ (t : State). counts_of t ms) x.state;
           state = y.state ∙ ap (λ (t : State). after t ms) x.state;
@@ -168,10 +167,10 @@ module _ (vs l d : List ℕ) (some : 1 ≤ length vs) (few : length vs ≤ great
 -- ---- a sound file
 
 abbrev is_schedule : Reading → Schedule → Schedule
-is_schedule (faulty f) z = z
-is_schedule (sound h) z = h
+is_schedule (Err f) z = z
+is_schedule (Ok h) z = h
 
-same-schedule : {h k : Schedule} → sound h ≡ sound k → h ≡ k
+same-schedule : {h k : Schedule} → ◌≡◌ {A = Reading} (Ok h) (Ok k) → h ≡ k
 same-schedule {h} {k} e = ap (λ (r : Reading). is_schedule r h) e
 
 module _ (s : List ℕ) (n : ℕ) (vs : List ℕ) (p : Places) (h : FormGood s n vs p) (l d : List ℕ) (g : Group) (l₁ d₁ : List ℕ) (x : Said) (e : outcome g l₁ d₁ x ≡ started (take n vs) l d) where
@@ -201,32 +200,31 @@ module _ (s : List ℕ) (n : ℕ) (vs : List ℕ) (p : Places) (h : FormGood s n
       }
 
   module _ (r : Ran) (l' d' : List ℕ) where
-    has-run : RanBoth h.warmup h.measured g l₁ d₁ r l' d' → ran_over r l' d' ≡ run_by (sound schedule) l d
+    has-run : RanBoth h.warmup h.measured g l₁ d₁ r l' d' → ran_over (Ok r) l' d' ≡ run_by (Ok schedule) l d
     unfolding run_by has_run
     has-run b =
         let from : state_with g l₁ d₁ ≡ begins schedule l d = sym begun-is in
         let end : state_with r.group l' d' ≡ after (between schedule l d) h.measured = b.state ∙ ap (λ (t : State). after (after t h.warmup) h.measured) from in
         let one : r.warmup ≡ counts_of (begins schedule l d) h.warmup = b.warmup ∙ ap (λ (t : State). counts_of t h.warmup) from in
         let two : r.measured ≡ counts_of (between schedule l d) h.measured = b.measured ∙ ap (λ (t : State). counts_of (after t h.warmup) h.measured) from in
-        λ k. ran_over (record { fault = b.fault k; warmup = one k; measured = two k; group = (end k).group }) (end k).store (end k).depths
+        λ k. ran_over (Ok (record { warmup = one k; measured = two k; group = (end k).group })) (end k).store (end k).depths
 
-    any-schedule : ran_over r l' d' ≡ run_by (sound schedule) l d → SoundRan s l d r l' d'
-    any-schedule b k q = b ∙ ap (λ (t : Schedule). run_by (sound t) l d) (same-schedule (sym h.is ∙ q))
+    any-schedule : ran_over (Ok r) l' d' ≡ run_by (Ok schedule) l d → SoundRan s l d r l' d'
+    any-schedule b k q = b ∙ ap (λ (t : Schedule). run_by (Ok t) l d) (same-schedule (sym h.is ∙ q))
 
     pub sound-both : BothRan s p g l₁ d₁ r l' d' → SoundRan s l d r l' d'
     sound-both b = any-schedule (has-run (b h.warmup h.measured h.warmup-end h.measured-end h.warmup-are h.measured-are))
 
-  pub sound-short : (ltb (length l₁) store_length || ltb (length d₁) store_length) ≡ true → (f : Fault) (w m : Counts) → f ≡ no_fault
+  pub sound-short : (ltb (length l₁) store_length || ltb (length d₁) store_length) ≡ true → (w m : Counts)
       → w ≡ refused_all p.warmup → m ≡ refused_all p.measured
-      → SoundRan s l d (record { fault = f; warmup = w; measured = m; group = g }) l₁ d₁
-  sound-short k f w m ef ew em =
+      → SoundRan s l d (record { warmup = w; measured = m; group = g }) l₁ d₁
+  sound-short k w m ew em =
       let a = state_with g l₁ d₁ in
       let z = short-number a k in
       let still : after a h.warmup ≡ a = short-state a z.0 z.1 h.warmup in
-      any-schedule (record { fault = f; warmup = w; measured = m; group = g }) l₁ d₁
-      (has-run (record { fault = f; warmup = w; measured = m; group = g }) l₁ d₁
+      any-schedule (record { warmup = w; measured = m; group = g }) l₁ d₁
+      (has-run (record { warmup = w; measured = m; group = g }) l₁ d₁
       (record {
-        fault = ef;
         warmup = ew ∙ ap refused_all (sym h.warmup-are.long) ∙ sym (short-counts a z.0 z.1 h.warmup);
         measured = em ∙ ap refused_all (sym h.measured-are.long) ∙ sym (short-counts a z.0 z.1 h.measured)
             ∙ ap (λ (t : State). counts_of t h.measured) (sym still);
@@ -235,29 +233,18 @@ module _ (s : List ℕ) (n : ℕ) (vs : List ℕ) (p : Places) (h : FormGood s n
 
 -- ---- any file
 
-module _ (s : List ℕ) (r : Form) (h : FormIs s r) where
-  form-bad : (b : Bool) → eqb r.fault.number 0 ≡ b → b ≡ false → FormCase b s r → read_file s ≡ faulty r.fault
-  unfolding FormCase
-  form-bad true e z c = let y : ◌≡◌ {A = ℕ} 0 1 = cc in absurd (omega arith)
-  form-bad false e z c = c
-
-  pub run-bad : r.fault.number ≢ 0 → (q : Ran) (l d : List ℕ) → q ≡ not_run r.fault → ran_over q l d ≡ run_of s l d
+module _ (s : List ℕ) {r : Result Form Fault} (h : FormIs s r) where
+  pub run-bad : {f : Fault} → r ≡ Err f → (l d : List ℕ) → ran_over (Err f) l d ≡ run_of s l d
   unfolding run_of run_by FormIs
-  run-bad ne q l d e =
-      let w : read_file s ≡ faulty r.fault = form-bad (eqb r.fault.number 0) refl (ne_eqb r.fault.number 0 ne) h in
-      ap (λ (t : Ran). ran_over t l d) e ∙ ap (λ (t : Reading). run_by t l d) (sym w)
+  run-bad g l d = ap (λ (t : Reading). run_by t l d) (sym (subst (FormIs s) g h))
 
-  form-good : (b : Bool) → eqb r.fault.number 0 ≡ b → r.fault.number ≡ 0 → FormCase b s r → FormGood s r.n r.values r.places
-  unfolding FormCase
-  form-good true e z c = c
-  form-good false e z c = absurd (eqb-false r.fault.number 0 e z)
+  module _ {f : Form} (g : r ≡ Ok f) where
+    pub run-form : FormGood s f.n f.values f.places
+    unfolding FormIs
+    run-form = subst (FormIs s) g h
 
-  pub run-form : r.fault.number ≡ 0 → FormGood s r.n r.values r.places
-  unfolding FormIs
-  run-form z = form-good (eqb r.fault.number 0) refl z h
-
-  pub run-good : r.fault.number ≡ 0 → (q : Ran) (l d l' d' : List ℕ) → SoundRan s l d q l' d' → ran_over q l' d' ≡ run_of s l d
-  unfolding run_of
-  run-good z q l d l' d' b =
-      let w = run-form z in
-      b (record { values = take r.n r.values; warmup = w.warmup; measured = w.measured }) w.is ∙ ap (λ (t : Reading). run_by t l d) (sym w.is)
+    pub run-good : (q : Ran) (l d l' d' : List ℕ) → SoundRan s l d q l' d' → ran_over (Ok q) l' d' ≡ run_of s l d
+    unfolding run_of
+    run-good q l d l' d' b =
+        let w = run-form in
+        b (record { values = take f.n f.values; warmup = w.warmup; measured = w.measured }) w.is ∙ ap (λ (t : Reading). run_by t l d) (sym w.is)

@@ -5,10 +5,9 @@ use Prim.Native.Nat.{ℕ, ◌+◌, ◌-◌, ◌≤◌, ◌<◌}
 use native.Mathlib.Omega.{arith}
 use lib.ListN.{length, get_or, take, drop, length-append, take-append-drop, get_or-append}
 use lib.Seq.{length-take-le, drop_at}
+use Rattle.text.specs.Read.{Read, bad}
+use Rattle.text.proofs.ReadLaws.{got}
 use Rattle.text.specs.Stands.{Stands}
-use Rattle.text.specs.declared.number.Number.{Number}
-use Rattle.text.specs.declared.number.Number.TheVariants.{Bad, Value}
-use Rattle.schedule.specs.Lines.{Item, broken, item}
 use Rattle.schedule.specs.Line.{line_of, Holdable, line_at, Small}
 use Rattle.schedule.specs.Header.{header_of, header_at}
 use Rattle.schedule.specs.Values.{value_line, value_at}
@@ -71,21 +70,21 @@ module _ {A : Type 0} {P : A → Type 0} {f : A → List ℕ} (Broken : List ℕ
   }
 
 -- what is read at a place is no fault there
-item-whole : {A : Type 0} {r : Item A} {x : A} {m p : ℕ} → r ≡ item x m → r ≡ broken p → ⊥
+item-whole : {A : Type 0} {r : Read A} {x : A} {m p : ℕ} → r ≡ got x m → r ≡ bad p → ⊥
 item-whole e f = let z : ◌≡◌ {A = ℕ} 0 1 = cc in omega arith
 
-number-whole : {r : Number} {v m p : ℕ} → r ≡ Value v m → r ≡ Bad p → ⊥
+number-whole : {r : Read ℕ} {v m p : ℕ} → r ≡ got v m → r ≡ bad p → ⊥
 number-whole e f = let z : ◌≡◌ {A = ℕ} 0 1 = cc in omega arith
 
 module _ (s : List ℕ) where
-  pub line-breaks : (at p : ℕ) → at ≤ length s → line_at s at ≡ broken p → BreaksForm (Spelling Holdable line_of) (drop at s) (p - at + 1)
+  pub line-breaks : (at p : ℕ) → at ≤ length s → line_at s at ≡ bad p → BreaksForm (Spelling Holdable line_of) (drop at s) (p - at + 1)
   line-breaks at p h e =
-      breaks (λ t. line_at t at ≡ broken p) s at p h (λ t m st g k. item-whole (line-spelled t at m st g k)) (λ t g _ _. line_same s t p g at) (line-begins s at p e) e
+      breaks (λ t. line_at t at ≡ bad p) s at p h (λ t m st g k. item-whole (line-spelled t at m st g k)) (λ t g _ _. line_same s t p g at) (line-begins s at p e) e
 
-  pub value-breaks : (at p : ℕ) → at ≤ length s → value_at s at ≡ broken p → BreaksForm (Spelling Small value_line) (drop at s) (p - at + 1)
+  pub value-breaks : (at p : ℕ) → at ≤ length s → value_at s at ≡ bad p → BreaksForm (Spelling Small value_line) (drop at s) (p - at + 1)
   value-breaks at p h e =
-      breaks (λ t. value_at t at ≡ broken p) s at p h (λ t m v g k. item-whole (value-spelled t at m v g k)) (λ t g _ _. value_same s t p g at) (value-begins s at p e) e
+      breaks (λ t. value_at t at ≡ bad p) s at p h (λ t m v g k. item-whole (value-spelled t at m v g k)) (λ t g _ _. value_same s t p g at) (value-begins s at p e) e
 
-  pub header-breaks : (at : ℕ) (w : List ℕ) (p : ℕ) → at ≤ length s → header_at s at w ≡ Bad p → BreaksForm (Spelling Small (header_of w)) (drop at s) (p - at + 1)
+  pub header-breaks : (at : ℕ) (w : List ℕ) (p : ℕ) → at ≤ length s → header_at s at w ≡ bad p → BreaksForm (Spelling Small (header_of w)) (drop at s) (p - at + 1)
   header-breaks at w p h e =
-      breaks (λ t. header_at t at w ≡ Bad p) s at p h (λ t m v g k. number-whole (header-spelled t at w m v g k)) (λ t g i j. header-same s t p g i j at w) (header-begins s at w p e) e
+      breaks (λ t. header_at t at w ≡ bad p) s at p h (λ t m v g k. number-whole (header-spelled t at w m v g k)) (λ t g i j. header-same s t p g i j at w) (header-begins s at w p e) e

@@ -7,34 +7,32 @@ use native.Mathlib.Omega.{arith}
 use lib.Dec.{eqb, ltb}
 use lib.ListN.{length, get_or}
 use borrow.Author.Tests.{lt-ltb}
+use Rattle.std.specs.Prelude.{Option, Some, None, Result, Ok, Err}
+use Rattle.schedule.specs.declared.letter.Letter.{Letter}
+use Rattle.text.specs.declared.number.Broken.{Broken}
+use Rattle.text.specs.Read.{Read, bad, on_read}
+use Rattle.text.proofs.ReadLaws.{got}
 use Rattle.text.specs.Number.{pick, number_at}
-use Rattle.text.specs.declared.number.Number.{Number}
-use Rattle.text.specs.declared.number.Number.TheVariants.{Bad, Value}
-use Rattle.schedule.specs.Lines.{Item, broken, item}
-use Rattle.schedule.specs.Line.{numbers_after, may_cut, step_of, on_number, on_end, closed, spaced_at, next_number, end_at, ended_at, after_letter, line_at}
+use Rattle.schedule.specs.Line.{letter_of, on_letter, numbers_after, may_cut, step_of, closed, spaced_at, next_number, end_at, ended_at, after_letter, line_at}
 use Rattle.schedule.specs.Header.{on_word, word_at, alone_at, header_at}
 use Rattle.schedule.specs.Values.{value_at}
-use Rattle.schedule.specs.declared.line.End.{End}
-use Rattle.schedule.specs.declared.line.End.TheVariants.{NoEnd, Ends}
-use Rattle.schedule.specs.declared.header.Word.{Word}
-use Rattle.schedule.specs.declared.header.Word.TheVariants.{Missing, Past}
 use Rattle.text.proofs.StopLaws.{Same, Local, local-none, local-byte, local-pick, local-later, stop_at, number-local, begins-low}
 use Rattle.schedule.proofs.RoundTrip.Header.{word_read}
 use Rattle.schedule.proofs.Stops.Begins.{word-begins}
 
 -- ---- where each thing that is read stops
 
-abbrev stop_of_item : {A : Type 0} → Item A → ℕ
-stop_of_item (broken p) = p
-stop_of_item (item x m) = m
+abbrev stop_of_item : {A : Type 0} → Read A → ℕ
+stop_of_item (Err p) = p.place
+stop_of_item (Ok (x, m)) = m
 
-abbrev stop_of_end : End → ℕ
-stop_of_end (NoEnd p) = p
-stop_of_end (Ends x m) = m
+abbrev stop_of_end : Read Bool → ℕ
+stop_of_end (Err p) = p.place
+stop_of_end (Ok (x, m)) = m
 
-abbrev stop_of_word : Word → ℕ
-stop_of_word (Missing p) = p
-stop_of_word (Past n) = n
+abbrev stop_of_word : Result ℕ Broken → ℕ
+stop_of_word (Err p) = p.place
+stop_of_word (Ok n) = n
 
 -- what is made of what is read, where it stops at the same place
 local-made : {A B : Type 0} {stop : A → ℕ} {end : B → ℕ} {at : ℕ} {f : List ℕ → A} (g : A → B) → ((x : A) → stop x ≡ end (g x)) → Local stop at f → Local end at (λ s. g (f s))
@@ -45,32 +43,32 @@ local-made {f = f} g e h = record {
 
 -- ---- a number, and what is read on from its end
 module _ {B : Type 0} {stop : B → ℕ} (bad : ℕ → B) (is : (p : ℕ) → p ≡ stop (bad p)) (g : ℕ → ℕ → List ℕ → B) (k : (v n : ℕ) → Local stop n (g v n)) where
-  on-low : (s : List ℕ) (r : Number) → stop_at r ≤ stop (on_number r bad (λ v n. g v n s))
-  on-low s (Bad p) = omega (arith, is p)
-  on-low s (Value v n) = (k v n).low s
+  on-low : (s : List ℕ) (r : Read ℕ) → stop_at r ≤ stop (on_read r bad (λ v n. g v n s))
+  on-low s (Err p) = omega (arith, is p.place)
+  on-low s (Ok (v, n)) = (k v n).low s
 
-  on_same : (s t : List ℕ) (r : Number) → Same s t (stop (on_number r bad (λ v n. g v n s))) → on_number r bad (λ v n. g v n t) ≡ on_number r bad (λ v n. g v n s)
-  on_same s t (Bad p) e = refl
-  on_same s t (Value v n) e = (k v n).same s t e
+  on_same : (s t : List ℕ) (r : Read ℕ) → Same s t (stop (on_read r bad (λ v n. g v n s))) → on_read r bad (λ v n. g v n t) ≡ on_read r bad (λ v n. g v n s)
+  on_same s t (Err p) e = refl
+  on_same s t (Ok (v, n)) e = (k v n).same s t e
 
-  local-on : {at : ℕ} {f : List ℕ → Number} → Local stop_at at f → Local stop at (λ s. on_number (f s) bad (λ v n. g v n s))
+  local-on : {at : ℕ} {f : List ℕ → Read ℕ} → Local stop_at at f → Local stop at (λ s. on_read (f s) bad (λ v n. g v n s))
   local-on {f = f} h = record {
     low = λ s. omega (arith, h.low s, on-low s (f s));
-    same = λ s t e. ap (λ (r : Number). on_number r bad (λ v n. g v n t)) (h.same s t (λ j q. e j (omega (arith, on-low s (f s))))) ∙ on_same s t (f s) e;
+    same = λ s t e. ap (λ (r : Read ℕ). on_read r bad (λ v n. g v n t)) (h.same s t (λ j q. e j (omega (arith, on-low s (f s))))) ∙ on_same s t (f s) e;
   }
 
 -- ---- the parts of a line
 
-closed-local : (at : ℕ) (f : List ℕ → Number) → Local stop_at at f → Local stop_at at (λ s. closed s (f s))
+closed-local : (at : ℕ) (f : List ℕ → Read ℕ) → Local stop_at at f → Local stop_at at (λ s. closed s (f s))
 unfolding closed
 closed-local at f h =
-    local-on Bad (λ p. refl) (λ v n s. pick (eqb (get_or s n 0) 10) (Value v (n + 1)) (Bad n))
-    (λ v n. local-byte (λ b s. pick (eqb b 10) (Value v (n + 1)) (Bad n)) (λ b. local-pick (eqb b 10) (local-none (omega arith)) (local-none (omega arith)))) h
+    local-on bad (λ p. refl) (λ v n s. pick (eqb (get_or s n 0) 10) (got v (n + 1)) (bad n))
+    (λ v n. local-byte (λ b s. pick (eqb b 10) (got v (n + 1)) (bad n)) (λ b. local-pick (eqb b 10) (local-none (omega arith)) (local-none (omega arith)))) h
 
 spaced-local : (at : ℕ) → Local stop_at at (λ s. spaced_at s at)
 unfolding spaced_at
 spaced-local at =
-    local-byte (λ b s. pick (eqb b 32) (number_at s (at + 1)) (Bad at))
+    local-byte (λ b s. pick (eqb b 32) (number_at s (at + 1)) (bad at))
     (λ b. local-pick (eqb b 32) (local-later {n = at + 1} (omega arith) (number-local (at + 1))) (local-none (omega arith)))
 
 next-local : (at : ℕ) (w : Bool) → Local stop_at at (λ s. next_number s at w)
@@ -81,46 +79,44 @@ end-local : (at : ℕ) (may : Bool) → Local stop_of_end at (λ s. end_at s at 
 unfolding end_at
 end-local at may =
     local-byte
-    (λ b s. pick (eqb b 10) (Ends false (at + 1)) (pick may (pick (eqb b 32)
-    (pick (eqb (get_or s (at + 1) 0) 88) (pick (eqb (get_or s (at + 2) 0) 10) (Ends true (at + 3)) (NoEnd (at + 2))) (NoEnd (at + 1))) (NoEnd at)) (NoEnd at)))
+    (λ b s. pick (eqb b 10) (got false (at + 1)) (pick may (pick (eqb b 32)
+    (pick (eqb (get_or s (at + 1) 0) 88) (pick (eqb (get_or s (at + 2) 0) 10) (got true (at + 3)) (bad (at + 2))) (bad (at + 1))) (bad at)) (bad at)))
     (λ b. local-pick (eqb b 10) (local-none (omega arith)) (local-pick may (local-pick (eqb b 32) (local-later {n = at + 1} (omega arith) (local-byte
-    (λ c s. pick (eqb c 88) (pick (eqb (get_or s (at + 2) 0) 10) (Ends true (at + 3)) (NoEnd (at + 2))) (NoEnd (at + 1)))
+    (λ c s. pick (eqb c 88) (pick (eqb (get_or s (at + 2) 0) 10) (got true (at + 3)) (bad (at + 2))) (bad (at + 1)))
     (λ c. local-pick (eqb c 88) (local-later {n = at + 2} (omega arith) (local-byte
-    (λ d s. pick (eqb d 10) (Ends true (at + 3)) (NoEnd (at + 2)))
+    (λ d s. pick (eqb d 10) (got true (at + 3)) (bad (at + 2)))
     (λ d. local-pick (eqb d 10) (local-none (omega arith)) (local-none (omega arith)))))
     (local-none (omega arith))))) (local-none (omega arith))) (local-none (omega arith))))
 
-end-stop : (b i j r : ℕ) (q : End) → stop_of_end q ≡ stop_of_item (on_end q broken (λ x e. item (step_of b i j r x) e))
-end-stop b i j r (NoEnd p) = refl
-end-stop b i j r (Ends x m) = refl
+end-stop : (b : Letter) (i j r : ℕ) (q : Read Bool) → stop_of_end q ≡ stop_of_item (on_read q bad (λ x e. got (step_of b i j r x) e))
+end-stop b i j r (Err p) = refl
+end-stop b i j r (Ok (x, m)) = refl
 
-ended-local : (b i j r at : ℕ) → Local stop_of_item at (λ s. ended_at b i j r s at)
+ended-local : (b : Letter) (i j r at : ℕ) → Local stop_of_item at (λ s. ended_at b i j r s at)
 unfolding ended_at
-ended-local b i j r at = local-made (λ q. on_end q broken (λ x e. item (step_of b i j r x) e)) (end-stop b i j r) (end-local at (may_cut b))
+ended-local b i j r at = local-made (λ q. on_read q bad (λ x e. got (step_of b i j r x) e)) (end-stop b i j r) (end-local at (may_cut b))
 
-after-local : (b at : ℕ) → Local stop_of_item at (λ s. after_letter b s at)
+after-local : (b : Letter) (at : ℕ) → Local stop_of_item at (λ s. after_letter b s at)
 unfolding after_letter
 after-local b at =
-    local-on broken (λ p. refl)
-    (λ i n s. on_number (next_number s n (ltb 1 (numbers_after b))) broken (λ j m. on_number (next_number s m (ltb 2 (numbers_after b))) broken (λ r l. ended_at b i j r s l)))
-    (λ i n. local-on broken (λ p. refl) (λ j m s. on_number (next_number s m (ltb 2 (numbers_after b))) broken (λ r l. ended_at b i j r s l))
-    (λ j m. local-on broken (λ p. refl) (λ r l s. ended_at b i j r s l) (λ r l. ended-local b i j r l) (next-local m (ltb 2 (numbers_after b))))
+    local-on bad (λ p. refl)
+    (λ i n s. on_read (next_number s n (ltb 1 (numbers_after b))) bad (λ j m. on_read (next_number s m (ltb 2 (numbers_after b))) bad (λ r l. ended_at b i j r s l)))
+    (λ i n. local-on bad (λ p. refl) (λ j m s. on_read (next_number s m (ltb 2 (numbers_after b))) bad (λ r l. ended_at b i j r s l))
+    (λ j m. local-on bad (λ p. refl) (λ r l s. ended_at b i j r s l) (λ r l. ended-local b i j r l) (next-local m (ltb 2 (numbers_after b))))
     (next-local n (ltb 1 (numbers_after b))))
     (next-local at true)
 
+letter-local : (at : ℕ) (o : Option Letter) → Local stop_of_item at (λ s. on_letter o (bad at) (λ b. after_letter b s (at + 1)))
+letter-local at None = local-none (omega arith)
+letter-local at (Some b) = local-later {n = at + 1} (omega arith) (after-local b (at + 1))
+
 line-local : (at : ℕ) → Local stop_of_item at (λ s. line_at s at)
 unfolding line_at
-line-local at =
-    local-byte (λ b s. pick (eqb (numbers_after b) 0) (broken at) (after_letter b s (at + 1)))
-    (λ b. local-pick (eqb (numbers_after b) 0) (local-none (omega arith)) (local-later {n = at + 1} (omega arith) (after-local b (at + 1))))
+line-local at = local-byte (λ c s. on_letter (letter_of c) (bad at) (λ b. after_letter b s (at + 1))) (λ c. letter-local at (letter_of c))
 
-value-stop : (r : Number) → stop_at r ≡ stop_of_item (on_number r broken item)
-value-stop (Bad p) = refl
-value-stop (Value v n) = refl
-
-value-local : (at : ℕ) → Local stop_of_item at (λ s. value_at s at)
+value-local : (at : ℕ) → Local stop_at at (λ s. value_at s at)
 unfolding value_at
-value-local at = local-made (λ r. on_number r broken item) value-stop (closed-local at (λ s. number_at s at) (number-local at))
+value-local at = closed-local at (λ s. number_at s at) (number-local at)
 
 alone-local : (at : ℕ) → Local stop_at at (λ s. alone_at s at)
 unfolding alone_at
@@ -131,20 +127,20 @@ module _ (s t : List ℕ) (p : ℕ) (same : Same s t p) where
   same-fault : {A : Type 0} {stop : A → ℕ} {at : ℕ} {f : List ℕ → A} {x : A} → Local stop at f → f s ≡ x → stop x ≡ p → f t ≡ x
   same-fault {stop = stop} h e k = h.same s t (λ j q. same j (omega (arith, ap stop e))) ∙ e
 
-  pub line_same : (at : ℕ) → line_at s at ≡ broken p → line_at t at ≡ broken p
+  pub line_same : (at : ℕ) → line_at s at ≡ bad p → line_at t at ≡ bad p
   line_same at e = same-fault (line-local at) e refl
 
-  pub value_same : (at : ℕ) → value_at s at ≡ broken p → value_at t at ≡ broken p
+  pub value_same : (at : ℕ) → value_at s at ≡ bad p → value_at t at ≡ bad p
   value_same at e = same-fault (value-local at) e refl
 
   -- a word asks where its text ends besides, so here both have a byte at the place
   module _ (within : p < length s) (inside : p < length t) where
-    word_low : (at : ℕ) (w : List ℕ) (r : Word) → word_at s at w ≡ r → at ≤ stop_of_word r
-    word_low at w (Missing q) e = begins-low (word-begins s at q w e)
-    word_low at w (Past n) e = omega (arith, (word_read s w at n e).end)
+    word_low : (at : ℕ) (w : List ℕ) (r : Result ℕ Broken) → word_at s at w ≡ r → at ≤ stop_of_word r
+    word_low at w (Err q) e = begins-low (word-begins s at q.place w e)
+    word_low at w (Ok n) e = omega (arith, (word_read s w at n e).end)
 
     word-step : (at : ℕ) (w : List ℕ) → (stop_of_word (word_at s (at + 1) w) ≤ p → word_at t (at + 1) w ≡ word_at s (at + 1) w)
-        → (x : Bool) → stop_of_word (pick x (word_at s (at + 1) w) (Missing at)) ≤ p → pick x (word_at t (at + 1) w) (Missing at) ≡ pick x (word_at s (at + 1) w) (Missing at)
+        → (x : Bool) → stop_of_word (pick x (word_at s (at + 1) w) (bad at)) ≤ p → pick x (word_at t (at + 1) w) (bad at) ≡ pick x (word_at s (at + 1) w) (bad at)
     word-step at w ih true h = ih h
     word-step at w ih false h = refl
 
@@ -156,14 +152,14 @@ module _ (s t : List ℕ) (p : ℕ) (same : Same s t p) where
         let here = lt-ltb at (length s) (omega arith) in
         rw (here, lt-ltb at (length t) (omega arith), ← same at g) (word-step at w (λ k. word_same (at + 1) w k) (eqb (get_or s at 0) b) (rw here at h))
 
-    word-stop : (r : Word) → on_word r Bad (λ n. alone_at s n) ≡ Bad p → stop_of_word r ≤ p
-    word-stop (Missing q) e = let k : q ≡ p = cc in omega arith
-    word-stop (Past n) e = omega (arith, (alone-local n).low s, ap stop_at e)
+    word-stop : (r : Result ℕ Broken) → on_word r (alone_at s) ≡ bad p → stop_of_word r ≤ p
+    word-stop (Err q) e = let k : q.place ≡ p = cc in omega arith
+    word-stop (Ok n) e = omega (arith, (alone-local n).low s, ap stop_at e)
 
-    after-word : (r : Word) → on_word r Bad (λ n. alone_at s n) ≡ Bad p → on_word r Bad (λ n. alone_at t n) ≡ Bad p
-    after-word (Missing q) e = e
-    after-word (Past n) e = same-fault (alone-local n) e refl
+    after-word : (r : Result ℕ Broken) → on_word r (alone_at s) ≡ bad p → on_word r (alone_at t) ≡ bad p
+    after-word (Err q) e = e
+    after-word (Ok n) e = same-fault (alone-local n) e refl
 
-    pub header-same : (at : ℕ) (w : List ℕ) → header_at s at w ≡ Bad p → header_at t at w ≡ Bad p
+    pub header-same : (at : ℕ) (w : List ℕ) → header_at s at w ≡ bad p → header_at t at w ≡ bad p
     unfolding header_at
-    header-same at w e = ap (λ (r : Word). on_word r Bad (λ n. alone_at t n)) (word_same at w (word-stop (word_at s at w) e)) ∙ after-word (word_at s at w) e
+    header-same at w e = ap (λ (r : Result ℕ Broken). on_word r (alone_at t)) (word_same at w (word-stop (word_at s at w) e)) ∙ after-word (word_at s at w) e

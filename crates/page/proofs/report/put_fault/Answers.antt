@@ -1,7 +1,7 @@
--- `report::put_fault` meets its contract: the template has the fault's number first. Assumes nothing.
+-- `report::put_fault` meets its contract: the template has the refusal's number first. Assumes nothing.
 use Rattle.page.specs.Report.{fault_line}
 use Rattle.page.proofs.report.put_fault.Goals as goal
 
 pub returns : goal.returns
 unfolding fault_line
-returns c = c.fill.ensures
+returns c = rw (← c.number-number.ensures) c.fill.ensures

@@ -1,22 +1,13 @@
--- `report::write_report` meets its contract: the fault's number says which report the run has. Assumes nothing.
+-- `report::write_report` meets its contract: what was run says which report it has. Assumes nothing.
 use native.Mathlib.Omega.{arith}
 use Rattle.page.proofs.ReportLaws.{runs-size, report-bad, report-done}
 use Rattle.page.proofs.report.write_report.Goals as goal
 
-pub returns-then-fault-ne0 : goal.returns-then-fault-ne0
-returns-then-fault-ne0 c =
-    let a = c.args in
-    let ran = c.run-ran in
-    report-bad a.file.now a.store.now a.depths.now ran.result ran.ensures c.if-fault-ne0.true c.put_fault.ensures.wrote
-
 pub put_done-requires : goal.put_done-requires
-put_done-requires c =
-    let a = c.args in
-    let ran = c.run-ran in
-    (runs-size a.file.now a.store.now a.depths.now ran.result ran.ensures, omega arith)
+put_done-requires c = (runs-size _ _ _ c.run.ensures c.in-Ok.is, omega arith)
 
-pub returns : goal.returns
-returns c =
-    let a = c.args in
-    let ran = c.run-ran in
-    report-done a.file.now a.store.now a.depths.now ran.result ran.ensures c.if-fault-ne0.false c.put_done.ensures.wrote
+pub returns-in-Ok : goal.returns-in-Ok
+returns-in-Ok c = report-done _ _ _ c.run.ensures c.in-Ok.is c.put_done.ensures.wrote
+
+pub returns-in-Err : goal.returns-in-Err
+returns-in-Err c = report-bad _ _ _ c.run.ensures c.in-Err.is c.put_fault.ensures.wrote

@@ -2,36 +2,26 @@
 use Rattle.std.proofs.Common.{rules}
 use mathlib.Core.Path.{◌≡◌}
 use lib.ListN.{length}
+use Rattle.std.proofs.lemmas.Result.{err_from_is_err_and}
 use Rattle.schedule.proofs.Reading.Whole.{opening-few, opening-within, form-long, form-opening, form-sections, form-good}
 use Rattle.schedule.proofs.file.form_of.Goals as goal
-use Rattle.schedule.proofs.file.form_of.Goals.{After-read_opening-opening}
 
 pub returns-then-s-gt-LONGEST : goal.returns-then-s-gt-LONGEST
-returns-then-s-gt-LONGEST c = form-long _ _ c.if-s-gt-LONGEST.true c.no_form.ensures
+returns-then-s-gt-LONGEST c = form-long _ c.if-s-gt-LONGEST.true
 
-pub returns-then-fault-ne0 : goal.returns-then-fault-ne0
-returns-then-fault-ne0 c =
-    form-opening _ _ c.read_opening-opening.ensures _ c.if-s-gt-LONGEST.false
-    c.if-fault-ne0.true c.no_form-then-fault-ne0.ensures
+pub returns-in_err-opening : goal.returns-in_err-opening
+returns-in_err-opening c = let p = err_from_is_err_and c.from_residual.result c.from_residual.ensures.1 in rw (p.1, p.2) (form-opening _ c.if-s-gt-LONGEST.false c.read_opening.ensures c.in_err-opening.was)
 
 pub read_sections-requires : goal.read_sections-requires
-read_sections-requires c = (
-  c.last_end-end.ensures,
-  opening-few _ _ c.read_opening-opening.ensures c.if-fault-ne0.false,
-  opening-within _ _ c.read_opening-opening.ensures c.if-fault-ne0.false,
-  c.if-s-gt-LONGEST.false,
-)
+read_sections-requires c = (c.last_end-end.ensures, opening-few _ c.if-s-gt-LONGEST.false c.read_opening.ensures c.in_ok-opening.was, opening-within _ c.if-s-gt-LONGEST.false c.read_opening.ensures c.in_ok-opening.was, c.if-s-gt-LONGEST.false)
 
--- the opening's array has all its 16 places
-values-long : (c : After-read_opening-opening) → length c.read_opening-opening.result.values ≡ 16
-values-long c = search rules
+pub returns-in_err-places : goal.returns-in_err-places
+returns-in_err-places c =
+    let long : length c.in_ok-opening.opening.values ≡ 16 = search rules in
+    let p = err_from_is_err_and c.from_residual-in_err-places.result c.from_residual-in_err-places.ensures.1 in
+    rw (p.1, p.2) (form-sections _ c.if-s-gt-LONGEST.false c.read_opening.ensures c.in_ok-opening.was long c.read_sections.ensures c.in_err-places.was)
 
-pub returns-in-Good : goal.returns-in-Good
-returns-in-Good c =
-    form-good _ _ c.read_opening-opening.ensures c.if-fault-ne0.false c.if-s-gt-LONGEST.false
-    (values-long (goal.at.returns-in-Good c).After-read_opening-opening) c.read_sections.ensures c.in-Good.is
-
-pub returns-in-Bad : goal.returns-in-Bad
-returns-in-Bad c =
-    form-sections _ _ c.read_opening-opening.ensures c.if-fault-ne0.false c.if-s-gt-LONGEST.false
-    (values-long (goal.at.returns-in-Bad c).After-read_opening-opening) c.read_sections.ensures _ c.in-Bad.is c.no_form-in-Bad.ensures
+pub returns : goal.returns
+returns c =
+    let long : length c.in_ok-opening.opening.values ≡ 16 = search rules in
+    form-good _ c.if-s-gt-LONGEST.false c.read_opening.ensures c.in_ok-opening.was long c.read_sections.ensures c.in_ok-places.was

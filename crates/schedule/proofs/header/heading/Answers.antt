@@ -1,9 +1,10 @@
--- The word and the count behind it are read as the definition reads them. Assumes nothing.
+-- The word is there and the rest says what the line is, or the word is not. Assumes nothing.
+use Rattle.std.proofs.lemmas.Result.{err_from_is_err_and}
 use Rattle.schedule.proofs.Reading.Whole.{header-missing, header-past}
 use Rattle.schedule.proofs.header.heading.Goals as goal
 
-pub returns-in-Past : goal.returns-in-Past
-returns-in-Past c = header-past _ _ _ c.word_at.ensures c.in-Past.is c.alone_at.ensures
+pub returns-in_err-n : goal.returns-in_err-n
+returns-in_err-n c = let p = err_from_is_err_and c.from_residual.result c.from_residual.ensures.1 in rw (p.1, p.2) (header-missing _ _ _ c.word_at.ensures c.in_err-n.was)
 
-pub returns-in-Missing : goal.returns-in-Missing
-returns-in-Missing c = header-missing _ _ _ c.word_at.ensures c.in-Missing.is
+pub returns : goal.returns
+returns c = header-past _ _ _ c.word_at.ensures c.in_ok-n.was c.alone_at.ensures

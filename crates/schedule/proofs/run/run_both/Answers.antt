@@ -9,4 +9,4 @@ pub run_steps-measured-requires : goal.run_steps-measured-requires
 run_steps-measured-requires c = both-second _ _ _ _ _ c.requires _ _ _ _ c.run_steps-warmup.ensures
 
 pub returns : goal.returns
-returns c = both-ran _ _ _ _ _ c.requires _ _ _ _ c.run_steps-warmup.ensures _ _ _ _ _ c.none-fault.ensures c.run_steps-measured.ensures
+returns c = both-ran _ _ _ _ _ c.requires _ _ _ _ c.run_steps-warmup.ensures _ _ _ _ c.run_steps-measured.ensures

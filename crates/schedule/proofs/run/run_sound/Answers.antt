@@ -4,7 +4,7 @@ use Rattle.schedule.proofs.Running.Whole.{sound-short, sound-ready, sound-both}
 use Rattle.schedule.proofs.run.run_sound.Goals as goal
 
 pub returns-then-too_short : goal.returns-then-too_short
-returns-then-too_short c = sound-short _ _ _ _ c.requires _ _ _ _ _ _ c.start-begun.ensures (sym c.too_short.ensures ∙ c.if-too_short.true) _ _ _ c.none-fault.ensures c.refused-warmup.ensures c.refused-measured.ensures
+returns-then-too_short c = sound-short _ _ _ _ c.requires _ _ _ _ _ _ c.start-begun.ensures (sym c.too_short.ensures ∙ c.if-too_short.true) _ _ c.refused-warmup.ensures c.refused-measured.ensures
 
 pub run_both-requires : goal.run_both-requires
 run_both-requires c = sound-ready _ _ _ _ c.requires _ _ _ _ _ _ c.start-begun.ensures (sym c.too_short.ensures ∙ c.if-too_short.false)

@@ -1,28 +1,29 @@
-use mathlib.Core.Path.{sym}
-use native.Mathlib.Omega.{arith}
+use Rattle.std.proofs.Common.{Bor}
+use Prim.Native.Nat.{ℕ}
+use mathlib.Core.List.{List}
+use mathlib.Core.Path.{refl, sym, ap, ◌∙◌}
 use Rattle.schedule.proofs.Running.Steps.{counts_same, going-none, going-known, going-room, going_on, going_done}
 use Rattle.schedule.proofs.run.run_steps.Goals as goal
 
-pub loop-i-init : goal.loop-i-init
-loop-i-init c = counts_same (sym c.none-counts.ensures) (going-none _ _ _ _ _ _ c.requires)
+pub loop-init : goal.loop-init
+loop-init c = (refl, counts_same (sym c.none-counts.ensures) (going-none _ _ _ _ _ _ c.requires))
 
-pub step_at-taken-requires : goal.step_at-taken-requires
-step_at-taken-requires c = going-known _ _ _ _ _ _ _ _ c.loop-i.invariant c.loop-i-test.true
+pub step-step-requires : goal.step-step-requires
+step-step-requires c = rw c.loop.invariant.0 (going-known _ _ _ _ _ _ _ _ c.loop.invariant.1 c.loop-test.true)
 
 pub step_sound-answer-requires : goal.step_sound-answer-requires
-step_sound-answer-requires c = c.loop-i.invariant.ready
+step_sound-answer-requires c = c.loop.invariant.1.ready
 
 pub counted-counts-requires : goal.counted-counts-requires
-counted-counts-requires c = going-room _ _ _ _ _ _ _ _ c.loop-i.invariant c.loop-i-test.true
+counted-counts-requires c = going-room _ _ _ _ _ _ _ _ c.loop.invariant.1 c.loop-test.true
 
-pub overflow_add-i : goal.overflow_add-i
-overflow_add-i c = omega arith
-
-pub loop-i-smaller : goal.loop-i-smaller
-loop-i-smaller c = omega arith
-
-pub loop-i-preserved : goal.loop-i-preserved
-loop-i-preserved c = counts_same (sym c.counted-counts.ensures) (going_on _ _ _ _ _ _ _ _ c.loop-i.invariant c.loop-i-test.true c.step_at-taken.result c.step_at-taken.ensures _ _ c.step_sound-answer.ensures)
+pub loop-preserved : goal.loop-preserved
+loop-preserved c =
+    let same = c.loop.invariant.0 in (
+      ap (λ (f : Bor (List ℕ)). f.now) c.step-step.ensures.same ∙ same,
+      counts_same (sym c.counted-counts.ensures)
+          (going_on _ _ _ _ _ _ _ _ c.loop.invariant.1 c.loop-test.true _ _ (rw same at c.step-step.ensures.read) _ _ c.step_sound-answer.ensures),
+    )
 
 pub returns : goal.returns
-returns c = going_done _ _ _ _ _ _ _ _ _ _ _ _ c.loop-i.invariant c.loop-i-test.false
+returns c = going_done _ _ _ _ _ _ _ _ _ _ _ _ c.loop.invariant.1 c.loop-test.false

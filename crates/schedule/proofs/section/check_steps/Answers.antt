@@ -1,28 +1,24 @@
-use native.Mathlib.Omega.{arith}
-use Rattle.schedule.proofs.Reading.Ahead.{ahead-last}
-use Rattle.schedule.proofs.Reading.Whole.{checking-none, checking-late, checking-broken, checking-on, checking-done}
+use Rattle.std.proofs.Common.{Bor}
+use Prim.Native.Nat.{ℕ}
+use mathlib.Core.List.{List}
+use mathlib.Core.Path.{refl, ap, ◌∙◌}
+use Rattle.schedule.proofs.Reading.Whole.{checking-none, checking-broken, checking-on, checking-done}
 use Rattle.schedule.proofs.section.check_steps.Goals as goal
 
-pub loop-i-init : goal.loop-i-init
-loop-i-init c = checking-none _ _ _
+pub loop-index-init : goal.loop-index-init
+loop-index-init c = (refl, checking-none _ _ _)
 
-pub returns-then-place-end : goal.returns-then-place-end
-returns-then-place-end c = checking-late c.loop-i.invariant c.requires c.loop-i-test.true (omega (arith, c.if-place-end.true))
+pub line-requires : goal.line-requires
+line-requires c = rw c.loop-index.invariant.0 c.requires
 
-pub line_end_at-next-requires : goal.line_end_at-next-requires
-line_end_at-next-requires c = ahead-last c.requires c.if-place-end.false
+pub returns-in-Err : goal.returns-in-Err
+returns-in-Err c = checking-broken c.loop-index.invariant.1 _ _ c.loop-index.invariant.0 c.loop-index-test.true c.line.ensures.read c.in-Err.is
 
-pub returns-then-next-eq0 : goal.returns-then-next-eq0
-returns-then-next-eq0 c = checking-broken c.loop-i.invariant c.loop-i-test.true c.line_end_at-next.ensures c.if-next-eq0.true
-
-pub overflow_add-i : goal.overflow_add-i
-overflow_add-i c = omega arith
-
-pub loop-i-smaller : goal.loop-i-smaller
-loop-i-smaller c = omega arith
-
-pub loop-i-preserved : goal.loop-i-preserved
-loop-i-preserved c = checking-on c.loop-i.invariant c.loop-i-test.true c.line_end_at-next.ensures c.if-next-eq0.false
+pub loop-index-preserved : goal.loop-index-preserved
+loop-index-preserved c = (
+  ap (λ (f : Bor (List ℕ)). f.now) c.line.ensures.same ∙ c.loop-index.invariant.0,
+  checking-on c.loop-index.invariant.1 _ _ c.loop-index.invariant.0 c.loop-index-test.true c.line.ensures.read c.in_default.is,
+)
 
 pub returns : goal.returns
-returns c = checking-done c.loop-i.invariant c.loop-i-test.false
+returns c = checking-done c.loop-index.invariant.1 c.loop-index-test.false

@@ -1,0 +1,99 @@
+// The step letters: which numbers follow each, whether its step may be cut, and the step that it makes of them.
+ghost use Rattle.std.specs.Prelude.{◌≡◌};
+ghost use Rattle.schedule.specs.Line.{letter_of, numbers_after, may_cut, step_of};
+
+use rules::step::Step;
+
+#[derive(Clone, Copy, PartialEq, Eq, Debug)]
+pub(crate) enum Letter {
+    E,
+    S,
+    F,
+    Z,
+    Q,
+    P,
+    C,
+    R,
+}
+
+impl Letter {
+    // The letter of a byte; none where the byte is no step letter.
+    #[tactic(auto, unfolding(crate::specs::Line::letter_of))]
+    pub(crate) fn of(byte: u8) -> Option<Letter>
+        ensures { result ≡ letter_of byte }
+    {
+        match byte {
+            b'E' => Some(Letter::E),
+            b'S' => Some(Letter::S),
+            b'F' => Some(Letter::F),
+            b'Z' => Some(Letter::Z),
+            b'Q' => Some(Letter::Q),
+            b'P' => Some(Letter::P),
+            b'C' => Some(Letter::C),
+            b'R' => Some(Letter::R),
+            _ => None,
+        }
+    }
+
+    // How many numbers follow.
+    #[tactic(auto, unfolding(crate::specs::Line::numbers_after))]
+    pub(crate) fn numbers(self) -> u8
+        ensures { result ≡ numbers_after self }
+    {
+        match self {
+            Letter::E | Letter::S | Letter::F => 3,
+            Letter::Z => 2,
+            Letter::Q | Letter::P | Letter::C | Letter::R => 1,
+        }
+    }
+
+    // Whether the step may be cut.
+    #[tactic(auto, unfolding(crate::specs::Line::may_cut))]
+    pub(crate) fn may_cut(self) -> bool
+        ensures { result ≡ may_cut self }
+    {
+        match self {
+            Letter::E | Letter::S | Letter::F | Letter::Z | Letter::Q => true,
+            Letter::P | Letter::C | Letter::R => false,
+        }
+    }
+
+    // The step with its numbers.
+    #[tactic(auto, unfolding(crate::specs::Line::step_of))]
+    pub(crate) fn step(self, a: u32, b: u32, c: u32, cut: bool) -> Step
+        ensures { result ≡ step_of self a b c cut }
+    {
+        match self {
+            Letter::E => Step::DeliverE {
+                to: a,
+                from: b,
+                round: c,
+                cut: cut,
+            },
+            Letter::S => Step::DeliverS {
+                to: a,
+                from: b,
+                round: c,
+                cut: cut,
+            },
+            Letter::F => Step::DeliverF {
+                to: a,
+                from: b,
+                round: c,
+                cut: cut,
+            },
+            Letter::Z => Step::DeliverDecision {
+                to: a,
+                from: b,
+                cut: cut,
+            },
+            Letter::Q => Step::Suspect {
+                process: a,
+                cut: cut,
+            },
+            Letter::P => Step::Pause { process: a },
+            Letter::C => Step::Crash { process: a },
+            Letter::R => Step::Recover { process: a },
+        }
+    }
+}
