@@ -1,6 +1,8 @@
 -- `lf::last_end` meets its contract. The loop keeps that no LF stands at its place or past it. Assumes nothing.
-use Rattle.schedule.proofs.Reading.Ahead.{Free}
+use Prim.Native.Nat.{ℕ, ◌≤◌}
+use mathlib.Core.Logic.{◌≢◌}
+use lib.ListN.{get_or}
 use Rattle.schedule.proofs.lf.last_end.Given as goal
 
 abbrev pub invariant-loop-k : goal.invariant-loop-k
-invariant-loop-k l = Free l.s l.k
+invariant-loop-k l = (j : ℕ) → l.k ≤ j → get_or l.s j 0 ≢ 10

@@ -15,9 +15,6 @@ count_fault-requires c = part_count _ _ _ c.heading.ensures c.requires.2 c.requi
 pub returns-then-left-count : goal.returns-then-left-count
 returns-then-left-count c = part-many _ _ _ _ _ c.heading.ensures c.in-Ok.is c.if-left-count.true c.count_fault.ensures
 
-pub check_steps-requires : goal.check_steps-requires
-check_steps-requires c = c.requires.0
-
 pub fault-requires : goal.fault-requires
 fault-requires c =
     let h = part-stop _ _ _ c.heading.ensures c.requires.2 c.requires.3 c.in-Ok.is c.check_steps.ensures c.in-Err-check_steps.is in

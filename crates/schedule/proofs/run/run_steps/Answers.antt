@@ -2,7 +2,7 @@ use Rattle.std.proofs.Common.{Bor}
 use Prim.Native.Nat.{ℕ}
 use mathlib.Core.List.{List}
 use mathlib.Core.Path.{refl, sym, ap, ◌∙◌}
-use Rattle.schedule.proofs.Running.Steps.{counts_same, going-none, going-known, going-room, going_on, going_done}
+use Rattle.schedule.proofs.Running.Steps.{counts_same, going-none, going-known, going_on, going_done}
 use Rattle.schedule.proofs.run.run_steps.Goals as goal
 
 pub loop-init : goal.loop-init
@@ -10,12 +10,6 @@ loop-init c = (refl, counts_same (sym c.none-counts.ensures) (going-none _ _ _ _
 
 pub step-step-requires : goal.step-step-requires
 step-step-requires c = rw c.loop.invariant.0 (going-known _ _ _ _ _ _ _ _ c.loop.invariant.1 c.loop-test.true)
-
-pub step_sound-answer-requires : goal.step_sound-answer-requires
-step_sound-answer-requires c = c.loop.invariant.1.ready
-
-pub counted-counts-requires : goal.counted-counts-requires
-counted-counts-requires c = going-room _ _ _ _ _ _ _ _ c.loop.invariant.1 c.loop-test.true
 
 pub loop-preserved : goal.loop-preserved
 loop-preserved c =

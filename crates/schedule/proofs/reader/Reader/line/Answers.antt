@@ -3,12 +3,8 @@ use mathlib.Core.Path.{◌≡◌, sym, ◌∙◌}
 use Rattle.std.proofs.lemmas.Result.{err_from_is_err_and}
 use Rattle.schedule.specs.Line.{line_at}
 use Rattle.schedule.specs.Private.{read_to}
-use Rattle.schedule.proofs.Reading.Ahead.{ahead-last}
 use Rattle.schedule.proofs.reader.Reader.line.Goals as goal
 use Rattle.schedule.proofs.reader.Reader.line.Goals.{then-self-end, else-self-end}
-
-pub line_by-read-requires : goal.line_by-read-requires
-line_by-read-requires c = ahead-last c.requires c.if-self-end.true
 
 pub returns-in_err-step-clause-read : goal.returns-in_err-step-clause-read
 unfolding read_to
