@@ -8,6 +8,7 @@ ghost use Rattle.schedule.specs.Private.{RunReady, RanTo, BothReady, BothRan, Fo
 use crate::counts::Counts;
 use crate::fault::Fault;
 use crate::file::{Places, form_of};
+use crate::lf::Lined;
 use crate::reader::Reader;
 use rules::group::{Bytes, Flags, Group, Halves, Words};
 use rules::store::Store;
@@ -38,7 +39,8 @@ pub(crate) fn run_steps(
     ensures { RanTo s.now at count (group_of n words.old halves.old bytes.old flags.old) store.old depths.old (group_of n words.new halves.new bytes.new flags.new) store.new depths.new result }
 {
     let mut counts = Counts::none();
-    let mut reader = Reader { file: s, at };
+    let file = Lined::new(s);
+    let mut reader = Reader { file, at };
     for _ in 0..count {
         let step = reader.step();
         let answer = step_sound(n, words, halves, bytes, flags, store, depths, step);

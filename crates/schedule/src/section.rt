@@ -13,13 +13,10 @@ use crate::reader::Reader;
 pub(crate) fn check_steps<'a>(file: Lined<'a>, at: usize, count: u32) -> Result<usize, BrokenLine>
     ensures { result ≡ rows_end (lines_at (line_at file.entry.bytes.now) count 0 at) }
 {
-    let mut reader = Reader {
-        file: file.bytes,
-        at,
-    };
+    let mut reader = Reader { file, at };
     for index in 0..count {
         let from = reader.at;
-        if let Err(broken) = reader.line(file.end) {
+        if let Err(broken) = reader.line() {
             return Err(BrokenLine {
                 index,
                 from,

@@ -7,5 +7,5 @@ use Rattle.schedule.proofs.run.run_steps.Given as goal
 
 abbrev pub invariant-loop : goal.invariant-loop
 invariant-loop l =
-    (l.reader.file.now ≡ l.s)
+    (l.reader.file.bytes.now ≡ l.s)
     × Going l.s l.at l.count (state_with (group_of l.n l.initial.words l.initial.halves l.initial.bytes l.initial.flags) l.initial.store l.initial.depths) (state_with (group_of l.n l.words l.halves l.bytes l.flags) l.store l.depths) l.counts l.counter l.reader.at
