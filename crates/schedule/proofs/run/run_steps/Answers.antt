@@ -2,7 +2,7 @@ use Rattle.schedule.specs.declared.lf.Lined.{Lined}
 use Rattle.std.proofs.Common.{Bor}
 use Prim.Native.Nat.{ℕ}
 use mathlib.Core.List.{List}
-use mathlib.Core.Path.{refl, sym, ap, ◌∙◌}
+use mathlib.Core.Path.{sym, ap, ◌∙◌}
 use Rattle.schedule.proofs.Running.Steps.{counts_same, going-none, going-known, going_on, going_done}
 use Rattle.schedule.proofs.run.run_steps.Goals as goal
 
