@@ -3,11 +3,11 @@
 ghost use Rattle.std.specs.Prelude.{◌≡◌, ◌≤◌, length};
 ghost use Rattle.rules.specs.Limits.{greatest_size, among};
 ghost use Rattle.schedule.specs.Limits as limits;
-ghost use Rattle.schedule.specs.Private.{LastLf, ValuesAre, StepsAre, FormIs};
+ghost use Rattle.schedule.specs.Private.{ValuesAre, StepsAre, FormIs};
 
 use crate::fault::{Fault, Flaw};
 use crate::header::{count_fault, heading};
-use crate::lf::last_end;
+use crate::lf::Lined;
 use crate::part::part_at;
 use crate::values::read_values;
 use rules::group::Group;
@@ -73,6 +73,7 @@ pub(crate) fn read_opening(s: &[u8]) -> Result<Opening, Fault>
     requires { length s.now ≤ limits.longest }
     ensures { ValuesAre s.now result }
 {
+    // No `map_err`: its closure would have to say again which places `Fault::at` takes.
     let (n, first) = match heading(s, 0, b"VALUES") {
         Ok(header) => header,
         Err(broken) => return Err(Fault::at(Flaw::Form, 1, 0, broken.place)),
@@ -88,15 +89,15 @@ pub(crate) fn read_opening(s: &[u8]) -> Result<Opening, Fault>
 }
 
 // The WARMUP and MEASURED sections from a place on, behind n value lines, to the end of the file.
-pub(crate) fn read_sections(s: &[u8], end: usize, n: u32, at: usize) -> Result<Places, Fault>
-    requires { LastLf s.now end × (n ≤ greatest_size) × (at ≤ length s.now) × (length s.now ≤ limits.longest) }
-    ensures { StepsAre s.now n at result }
+pub(crate) fn read_sections<'a>(file: Lined<'a>, n: u32, at: usize) -> Result<Places, Fault>
+    requires { (n ≤ greatest_size) × (at ≤ length file.bytes.now) × (length file.bytes.now ≤ limits.longest) }
+    ensures { StepsAre file.entry.bytes.now n at result }
 {
-    let warmup = part_at(s, at, end, b"WARMUP", n + 2, File::MOST_STEPS)?;
+    let warmup = part_at(file, at, b"WARMUP", n + 2, File::MOST_STEPS)?;
     let line = n + warmup.count + 3;
     let left = File::MOST_STEPS - warmup.count;
-    let measured = part_at(s, warmup.end, end, b"MEASURED", line, left)?;
-    if measured.end != s.len() {
+    let measured = part_at(file, warmup.end, b"MEASURED", line, left)?;
+    if measured.end != file.bytes.len() {
         let after = n + warmup.count + measured.count + 4;
         return Err(Fault::at(Flaw::Form, after, measured.end, measured.end));
     }
@@ -122,7 +123,6 @@ pub(crate) fn form_of(s: &[u8]) -> Result<Form, Fault>
     let opening = read_opening(s)?;
     let n = opening.n;
     let values = opening.values;
-    let end = last_end(s);
-    let places = read_sections(s, end, n, opening.at)?;
+    let places = read_sections(Lined::new(s), n, opening.at)?;
     Ok(Form { n, values, places })
 }

@@ -20,14 +20,23 @@ impl Look for Untested {
     }
 }
 
-// The place after the last LF of a file; 0 where it has none.
-pub(crate) fn last_end(s: &[u8]) -> usize
-    ensures { LastLf s.now result }
-{
-    for k in (0..s.len()).rev() {
-        if s[k] == 10 {
-            return k + 1;
+// The bytes of a file, and the place after its last LF; 0 where it has none.
+#[derive(Clone, Copy)]
+pub(crate) struct Lined<'a> {
+    pub bytes: &'a [u8],
+    pub end: usize,
+    ghost last: { LastLf bytes.now end },
+}
+
+impl<'a> Lined<'a> {
+    pub(crate) fn new(bytes: &'a [u8]) -> Lined<'a>
+        ensures { result.bytes ≡ bytes.entry }
+    {
+        for k in (0..bytes.len()).rev() {
+            if bytes[k] == 10 {
+                return Lined { bytes, end: k + 1 };
+            }
         }
+        Lined { bytes, end: 0 }
     }
-    0
 }

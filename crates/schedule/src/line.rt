@@ -112,6 +112,7 @@ pub(crate) fn known_number(s: &[u8], at: usize) -> (u32, usize)
 {
     let mut value: u32 = (s[at] - 48) as u32;
     let mut next = at + 1;
+    // No `for` over the places: it would end with the file too, where this reading never comes, and test for that at each byte.
     while is_digit(s[next]) {
         value = value * 10 + (s[next] - 48) as u32;
         next += 1;

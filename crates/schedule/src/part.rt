@@ -2,10 +2,11 @@
 // What is answered is where the steps stand, or the part's first fault.
 ghost use Rattle.std.specs.Prelude.{◌+◌, ◌≤◌, ◌<◌, ◌^◌, length};
 ghost use Rattle.schedule.specs.Limits.{longest};
-ghost use Rattle.schedule.specs.Private.{LastLf, PartIs};
+ghost use Rattle.schedule.specs.Private.{PartIs};
 
 use crate::fault::{Fault, Flaw};
 use crate::header::{count_fault, heading};
+use crate::lf::Lined;
 use crate::section::check_steps;
 
 // How many steps a part has, the place of the first step line and the place after the last.
@@ -17,25 +18,25 @@ pub(crate) struct Part {
 }
 
 // The part at a place: its word, the number of its first line in the file, and how many steps it may have.
-pub(crate) fn part_at(
-    s: &[u8],
+pub(crate) fn part_at<'a>(
+    file: Lined<'a>,
     at: usize,
-    end: usize,
     word: &[u8],
     line: u32,
     left: u32,
 ) -> Result<Part, Fault>
-    requires { LastLf s.now end × (line + left + 1 < 2 ^ 32) × (at ≤ length s.now) × (length s.now ≤ longest) }
-    ensures { PartIs s.now at word.now line left result }
+    requires { (line + left + 1 < 2 ^ 32) × (at ≤ length file.bytes.now) × (length file.bytes.now ≤ longest) }
+    ensures { PartIs file.entry.bytes.now at word.now line left result }
 {
-    let (count, start) = match heading(s, at, word) {
+    // No `map_err`: its closure would have to say again which places `Fault::at` takes.
+    let (count, start) = match heading(file.bytes, at, word) {
         Ok(header) => header,
         Err(broken) => return Err(Fault::at(Flaw::Form, line, at, broken.place)),
     };
     if left < count {
         return Err(count_fault(Flaw::Size, line, at, word));
     }
-    match check_steps(s, start, end, count) {
+    match check_steps(file, start, count) {
         Ok(end) => Ok(Part { count, start, end }),
         Err(broken) => Err(broken.fault(line + 1)),
     }

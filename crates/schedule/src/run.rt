@@ -7,6 +7,7 @@ ghost use Rattle.schedule.specs.Private.{RunReady, RanTo, BothReady, BothRan, Fo
 use crate::counts::Counts;
 use crate::fault::Fault;
 use crate::file::{Places, form_of};
+use crate::lf::Lined;
 use crate::reader::Reader;
 use rules::group::Group;
 use rules::store::Store;
@@ -32,7 +33,8 @@ pub(crate) fn run_steps(
     ensures { RanTo s.now at count group.old store.old depths.old group.new store.new depths.new result }
 {
     let mut counts = Counts::none();
-    let mut reader = Reader { file: s, at };
+    let file = Lined::new(s);
+    let mut reader = Reader { file, at };
     for _ in 0..count {
         let step = reader.step();
         let answer = group.step_sound(store, depths, step);

@@ -1,12 +1,11 @@
 -- The laws of places with an LF at them or ahead of them, and of places where a byte may be looked at, however that is: reading on from such a place keeps it so. Assumes nothing.
-use Prim.Native.Nat.{ℕ, ◌+◌, ◌-◌, ◌≤◌, ◌<◌}
+use Prim.Native.Nat.{ℕ, ◌+◌, ◌<◌}
 use mathlib.Core.Path.{◌≡◌, refl, sym, ap, ◌∙◌, subst}
 use mathlib.Core.Bool.{Bool, true, false}
 use mathlib.Core.List.{List}
 use mathlib.Core.Logic.{◌≢◌}
 use native.Mathlib.Omega.{arith}
-use native.Mathlib.Decide.{dec_lt}
-use lib.ListN.{length, get_or}
+use lib.ListN.{get_or}
 use Rattle.std.specs.Prelude.{Some, None}
 use Rattle.schedule.specs.declared.letter.Letter.{Letter}
 use Rattle.text.proofs.ReadLaws.{got, same_place}
@@ -14,31 +13,11 @@ use Rattle.text.proofs.LookLaws.{may-past, may-number}
 use Rattle.schedule.specs.Ahead.{Ahead}
 use Rattle.schedule.specs.Line.{letter_of, spaced_at, next_number}
 use Rattle.schedule.specs.Private.{LastLf}
-use Rattle.schedule.proofs.Reading.Cases.{past-none, spaced-is, space-here}
+use Rattle.schedule.proofs.Reading.Cases.{spaced-is, space-here}
 
 -- any place before the end of the last line
 pub ahead-last : {s : List ℕ} {at end : ℕ} → LastLf s end → at < end → Ahead s at
 ahead-last {s} {at} {end} l h = record { end = end; low = h; high = l.high; lf = l.lf (omega arith) }
-
--- no LF stands from k on
-abbrev pub Free : List ℕ → ℕ → Type 0
-Free s k = (j : ℕ) → k ≤ j → get_or s j 0 ≢ 10
-
-pub free-past : (s : List ℕ) → Free s (length s)
-free-past s = past-none s
-
-pub free-before : (s : List ℕ) (k : ℕ) → Free s k → get_or s (k - 1) 0 ≢ 10 → Free s (k - 1)
-free-before s k f n j h = go (dec_lt j k)
-  where
-    go : Dec (j < k) → get_or s j 0 ≢ 10
-    go (yes p) = λ z. n (ap (λ (i : ℕ). get_or s i 0) (omega arith) ∙ z)
-    go (no p) = f j (omega arith)
-
-pub free-last : (s : List ℕ) (k : ℕ) → Free s k → 0 < k → k ≤ length s → get_or s (k - 1) 0 ≡ 10 → LastLf s (k - 1 + 1)
-free-last s k f h g e = record { high = omega arith; lf = λ z. ap (λ (i : ℕ). get_or s i 0) (omega arith) ∙ e; none = λ j z. f j (omega arith) }
-
-pub free_all : (s : List ℕ) → Free s 0 → LastLf s 0
-free_all s f = record { high = omega arith; lf = λ z. absurd (omega arith); none = f }
 
 -- LF is no step letter
 lf-none : letter_of 10 ≡ None

@@ -17,7 +17,7 @@ pub overflow_sub-left : goal.overflow_sub-left
 overflow_sub-left c = warmup-few _ _ _ c.part_at.ensures c.in_ok-warmup.was
 
 pub part_at-requires-2 : goal.part_at-requires-2
-part_at-requires-2 c = (c.requires.0, omega (arith, c.requires.1, warmup-few _ _ _ c.part_at.ensures c.in_ok-warmup.was), warmup-high _ _ _ c.part_at.ensures c.in_ok-warmup.was c.requires.2, c.requires.3)
+part_at-requires-2 c = (omega (arith, c.requires.0, warmup-few _ _ _ c.part_at.ensures c.in_ok-warmup.was), warmup-high _ _ _ c.part_at.ensures c.in_ok-warmup.was c.requires.1, c.requires.2)
 
 pub returns-in_err-measured : goal.returns-in_err-measured
 returns-in_err-measured c = let p = err_from_is_err_and c.from_residual-in_err-measured.result c.from_residual-in_err-measured.ensures.1 in rw (p.1, p.2) (sections-half _ _ _ c.part_at.ensures c.in_ok-warmup.was c.part_at-2.ensures c.in_err-measured.was)
@@ -25,17 +25,17 @@ returns-in_err-measured c = let p = err_from_is_err_and c.from_residual-in_err-m
 pub overflow_add-after : goal.overflow_add-after
 overflow_add-after c = omega (arith, measured-few _ _ _ c.part_at.ensures c.in_ok-warmup.was c.part_at-2.ensures c.in_ok-measured.was)
 
-pub overflow_add-after-then-measured-s : goal.overflow_add-after-then-measured-s
-overflow_add-after-then-measured-s c = omega (arith, measured-few _ _ _ c.part_at.ensures c.in_ok-warmup.was c.part_at-2.ensures c.in_ok-measured.was)
+pub overflow_add-after-then-measured-file : goal.overflow_add-after-then-measured-file
+overflow_add-after-then-measured-file c = omega (arith, measured-few _ _ _ c.part_at.ensures c.in_ok-warmup.was c.part_at-2.ensures c.in_ok-measured.was)
 
-pub overflow_add-after-then-measured-s-2 : goal.overflow_add-after-then-measured-s-2
-overflow_add-after-then-measured-s-2 c = omega (arith, measured-few _ _ _ c.part_at.ensures c.in_ok-warmup.was c.part_at-2.ensures c.in_ok-measured.was)
+pub overflow_add-after-then-measured-file-2 : goal.overflow_add-after-then-measured-file-2
+overflow_add-after-then-measured-file-2 c = omega (arith, measured-few _ _ _ c.part_at.ensures c.in_ok-warmup.was c.part_at-2.ensures c.in_ok-measured.was)
 
 pub at-requires : goal.at-requires
-at-requires c = let high = measured-high _ _ _ c.part_at.ensures c.in_ok-warmup.was c.part_at-2.ensures c.in_ok-measured.was c.requires.2 in (omega arith, omega (arith, high, c.requires.3))
+at-requires c = let high = measured-high _ _ _ c.part_at.ensures c.in_ok-warmup.was c.part_at-2.ensures c.in_ok-measured.was c.requires.1 in (omega arith, omega (arith, high, c.requires.2))
 
-pub returns-then-measured-s : goal.returns-then-measured-s
-returns-then-measured-s c = sections-more _ _ _ c.part_at.ensures c.in_ok-warmup.was c.part_at-2.ensures c.in_ok-measured.was c.if-measured-s.true c.at.ensures
+pub returns-then-measured-file : goal.returns-then-measured-file
+returns-then-measured-file c = sections-more _ _ _ c.part_at.ensures c.in_ok-warmup.was c.part_at-2.ensures c.in_ok-measured.was c.if-measured-file.true c.at.ensures
 
 pub returns : goal.returns
-returns c = sections-good _ _ _ c.part_at.ensures c.in_ok-warmup.was c.part_at-2.ensures c.in_ok-measured.was c.if-measured-s.false
+returns c = sections-good _ _ _ c.part_at.ensures c.in_ok-warmup.was c.part_at-2.ensures c.in_ok-measured.was c.if-measured-file.false

@@ -26,9 +26,6 @@ known_next-c-requires c = third-known _ _ c.requires (sym c.of.ensures ∙ c.unw
 pub bounds-s-end : goal.bounds-s-end
 bounds-s-end c = (end_read _ _ c.requires (sym c.of.ensures ∙ c.unwrap-letter.ensures) c.numbers-count.ensures c.known_next-a.ensures c.known_next-b.ensures c.known_next-c.ensures).here
 
-pub overflow_add-next : goal.overflow_add-next
-overflow_add-next c = let h = line-inside _ _ c.requires (sym c.of.ensures ∙ c.unwrap-letter.ensures) c.numbers-count.ensures c.known_next-a.ensures c.known_next-b.ensures c.known_next-c.ensures c.if-cut.true-raw in omega (arith, h)
-
 pub overflow_add-next-else-cut : goal.overflow_add-next-else-cut
 overflow_add-next-else-cut c = let h = line-inside _ _ c.requires (sym c.of.ensures ∙ c.unwrap-letter.ensures) c.numbers-count.ensures c.known_next-a.ensures c.known_next-b.ensures c.known_next-c.ensures c.if-cut.false-raw in omega (arith, h)
 

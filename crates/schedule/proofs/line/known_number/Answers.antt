@@ -11,9 +11,6 @@ bounds-s-at c = (begun _ _ c.requires).first.within
 pub overflow_sub-value : goal.overflow_sub-value
 overflow_sub-value c = (begun _ _ c.requires).first.low
 
-pub overflow_cast-value : goal.overflow_cast-value
-overflow_cast-value c = let r = (begun _ _ c.requires).first in omega (arith, r)
-
 pub overflow_add-next : goal.overflow_add-next
 overflow_add-next c = let r = (begun _ _ c.requires).first in omega (arith, r)
 
@@ -22,9 +19,6 @@ loop-value-init c = (begun _ _ c.requires).then
 
 pub bounds-s-next : goal.bounds-s-next
 bounds-s-next c = underway-inside _ _ _ _ c.loop-value.invariant
-
-pub is_digit-requires : goal.is_digit-requires
-is_digit-requires c = tt
 
 -- a digit stands where the loop goes on
 digit : (c : In-loop-value) → Digit c.args.s.now c.loop-value.next
@@ -38,9 +32,6 @@ bounds-s-next-in-loop-value c = underway-inside _ _ _ _ c.loop-value.invariant
 
 pub overflow_sub-value-in-loop-value : goal.overflow_sub-value-in-loop-value
 overflow_sub-value-in-loop-value c = (digit (goal.at.overflow_sub-value-in-loop-value c).In-loop-value).low
-
-pub overflow_cast-value-in-loop-value : goal.overflow_cast-value-in-loop-value
-overflow_cast-value-in-loop-value c = omega (arith, digit (goal.at.overflow_cast-value-in-loop-value c).In-loop-value)
 
 pub overflow_add-value : goal.overflow_add-value
 overflow_add-value c = let h = underway-small _ _ _ _ c.loop-value.invariant (digit (goal.at.overflow_add-value c).In-loop-value).is in omega (arith, h)

@@ -4,24 +4,21 @@ use Rattle.schedule.proofs.Reading.Whole.{part_none, part-many, part-broken, par
 use Rattle.schedule.proofs.part.part_at.Goals as goal
 
 pub at-requires : goal.at-requires
-at-requires c = part-place _ _ _ c.heading.ensures c.requires.2 c.requires.3 c.in-Err.is
+at-requires c = part-place _ _ _ c.heading.ensures c.requires.1 c.requires.2 c.in-Err.is
 
 pub returns-in-Err : goal.returns-in-Err
 returns-in-Err c = part_none _ _ _ _ _ c.heading.ensures c.in-Err.is c.at.ensures
 
 pub count_fault-requires : goal.count_fault-requires
-count_fault-requires c = part_count _ _ _ c.heading.ensures c.requires.2 c.requires.3 c.in-Ok.is
+count_fault-requires c = part_count _ _ _ c.heading.ensures c.requires.1 c.requires.2 c.in-Ok.is
 
 pub returns-then-left-count : goal.returns-then-left-count
 returns-then-left-count c = part-many _ _ _ _ _ c.heading.ensures c.in-Ok.is c.if-left-count.true c.count_fault.ensures
 
-pub check_steps-requires : goal.check_steps-requires
-check_steps-requires c = c.requires.0
-
 pub fault-requires : goal.fault-requires
 fault-requires c =
-    let h = part-stop _ _ _ c.heading.ensures c.requires.2 c.requires.3 c.in-Ok.is c.check_steps.ensures c.in-Err-check_steps.is in
-    (omega (arith, c.requires.1, h.0, c.if-left-count.false), h.1, h.2)
+    let h = part-stop _ _ _ c.heading.ensures c.requires.1 c.requires.2 c.in-Ok.is c.check_steps.ensures c.in-Err-check_steps.is in
+    (omega (arith, c.requires.0, h.0, c.if-left-count.false), h.1, h.2)
 
 pub returns-in-Ok-check_steps : goal.returns-in-Ok-check_steps
 returns-in-Ok-check_steps c = part-good _ _ _ _ _ c.heading.ensures c.in-Ok.is c.if-left-count.false c.check_steps.ensures c.in-Ok-check_steps.is

@@ -1,9 +1,6 @@
 -- `run::run_both` meets its contract: the second section begins where the first ends. Assumes nothing.
-use Rattle.schedule.proofs.Running.Whole.{both_first, both-second, both-ran}
+use Rattle.schedule.proofs.Running.Whole.{both-second, both-ran}
 use Rattle.schedule.proofs.run.run_both.Goals as goal
-
-pub run_steps-warmup-requires : goal.run_steps-warmup-requires
-run_steps-warmup-requires c = both_first _ _ _ _ _ c.requires
 
 pub run_steps-measured-requires : goal.run_steps-measured-requires
 run_steps-measured-requires c = both-second _ _ _ _ _ c.requires _ _ _ _ c.run_steps-warmup.ensures

@@ -1,22 +1,14 @@
-use Rattle.std.proofs.Common.{Bor}
-use Prim.Native.Nat.{ℕ}
-use mathlib.Core.List.{List}
-use mathlib.Core.Path.{refl, ap, ◌∙◌}
-use Rattle.schedule.proofs.Reading.Whole.{checking-none, checking-broken, checking-on, checking-done}
+use Rattle.schedule.specs.declared.lf.Lined.{Lined}
+use mathlib.Core.Path.{ap, ◌∙◌}
+use Rattle.schedule.proofs.Reading.Whole.{checking-broken, checking-on, checking-done}
 use Rattle.schedule.proofs.section.check_steps.Goals as goal
-
-pub loop-index-init : goal.loop-index-init
-loop-index-init c = (refl, checking-none _ _ _)
-
-pub line-requires : goal.line-requires
-line-requires c = rw c.loop-index.invariant.0 c.requires
 
 pub returns-in-Err : goal.returns-in-Err
 returns-in-Err c = checking-broken c.loop-index.invariant.1 _ _ c.loop-index.invariant.0 c.loop-index-test.true c.line.ensures.read c.in-Err.is
 
 pub loop-index-preserved : goal.loop-index-preserved
 loop-index-preserved c = (
-  ap (λ (f : Bor (List ℕ)). f.now) c.line.ensures.same ∙ c.loop-index.invariant.0,
+  ap (λ (f : Lined). f.bytes.now) c.line.ensures.same ∙ c.loop-index.invariant.0,
   checking-on c.loop-index.invariant.1 _ _ c.loop-index.invariant.0 c.loop-index-test.true c.line.ensures.read c.in_default.is,
 )
 

@@ -4,4 +4,4 @@ use Rattle.schedule.proofs.Reading.Whole.{Checking}
 use Rattle.schedule.proofs.section.check_steps.Given as goal
 
 abbrev pub invariant-loop-index : goal.invariant-loop-index
-invariant-loop-index l = (l.reader.file.now ≡ l.s) × Checking l.s l.at l.count l.index l.reader.at
+invariant-loop-index l = (l.reader.file.bytes.now ≡ l.file.bytes.now) × Checking l.file.bytes.now l.at l.count l.index l.reader.at
