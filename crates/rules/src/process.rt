@@ -126,7 +126,7 @@ impl Process {
             round: 0,
             phase: 1,
             proposer: i.number(),
-            value: value,
+            value,
             marked: false,
             decided: false,
             decision: 0,
@@ -222,7 +222,7 @@ impl Process {
         let process = self.takes(carried);
         let Estimate { proposer, value } = carried;
         Next {
-            process: process,
+            process,
             first: Some(Message::E {
                 round,
                 proposer,
@@ -254,7 +254,7 @@ impl Process {
         process.phase = 2;
         process.estimates = 0;
         Next {
-            process: process,
+            process,
             first: Some(Message::F {
                 round,
                 proposer,
@@ -322,7 +322,7 @@ impl Process {
     {
         let process = self.decides(value);
         Next {
-            process: process,
+            process,
             first: Some(Message::Decision { value }),
             second: None,
         }

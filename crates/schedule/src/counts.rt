@@ -39,7 +39,7 @@ impl Counts {
         ensures { result ≡ private.refused_all steps }
     {
         Counts {
-            steps: steps,
+            steps,
             applied: 0,
             idle: 0,
             refused: steps,

@@ -1,6 +1,5 @@
 // The run of a schedule file over a lent store and the lent depths of its messages: the file is checked first, and its steps are taken while it is read again.
-ghost use Rattle.std.specs.Prelude.{◌≡◌, ◌||◌, ltb};
-ghost use Rattle.rules.specs.Limits.{store_length};
+ghost use Rattle.std.specs.Prelude.{◌≡◌};
 ghost use Rattle.schedule.specs.Run as runs;
 ghost use Rattle.schedule.specs.Private.{RunReady, RanTo, BothReady, BothRan, FormGood, SoundRan};
 
@@ -10,7 +9,6 @@ use crate::file::{Places, form_of};
 use crate::lf::Lined;
 use crate::reader::Reader;
 use rules::group::Group;
-use rules::store::Store;
 
 // What the run of a sound file gives: the counts of its two sections, and the group at the end.
 #[derive(Clone, Copy)]
@@ -58,20 +56,13 @@ pub(crate) fn run_both(
     let warmup = run_steps(s, places.start, places.warmup, &mut last, store, depths);
     let measured = run_steps(s, places.middle, places.measured, &mut last, store, depths);
     Ran {
-        warmup: warmup,
-        measured: measured,
+        warmup,
+        measured,
         group: last,
     }
 }
 
-// Whether one of two stores of these lengths is too short.
-pub(crate) fn too_short(store: usize, depths: usize) -> bool
-    ensures { result ≡ (ltb store store_length || ltb depths store_length) }
-{
-    store < Store::LENGTH || depths < Store::LENGTH
-}
-
-// Runs a sound file: a start with its values, then its steps. Over a store that is too short the start is refused, and so is every step.
+// Runs a sound file: a start with its values, then its steps. A start of 1 to 16 values is refused over a store that is too short alone, and then so is every step.
 pub(crate) fn run_sound(
     s: &[u8],
     n: u32,
@@ -84,17 +75,14 @@ pub(crate) fn run_sound(
     ensures { SoundRan s.now store.old depths.old result store.new depths.new }
 {
     let begun = Group::start(&values[..n as usize], store, depths);
-    let group = begun.group;
-    if too_short(store.len(), depths.len()) {
-        let warmup = Counts::refused(places.warmup);
-        let measured = Counts::refused(places.measured);
+    if begun.answer.is_err() {
         return Ran {
-            warmup,
-            measured,
-            group,
+            warmup: Counts::refused(places.warmup),
+            measured: Counts::refused(places.measured),
+            group: begun.group,
         };
     }
-    run_both(s, places, group, store, depths)
+    run_both(s, places, begun.group, store, depths)
 }
 
 // Runs a schedule file over a lent store and the lent depths of its messages. A faulty file runs no step, and leaves both as they were.

@@ -7,12 +7,15 @@ use Prim.Native.Nat.{ℕ, suc, ◌+◌, ◌≤◌}
 use lib.Dec.{ltb}
 use lib.ListN.{length, take}
 use borrow.Author.Tests.{le-ltb, ltb-false}
-use Rattle.std.specs.Prelude.{Result, Ok, Err}
+use Rattle.std.specs.Prelude.{Result, Ok, Err, is_err}
 use Rattle.rules.specs.Limits.{greatest_size, store_length}
 use Rattle.rules.specs.Layout.{Sized}
 use Rattle.rules.specs.Refusals.{row, short, miscounted, damaged, start_refusal, refusal}
-use Rattle.rules.specs.Answers.{Said, says_refused, total, Outcome, outcome}
-use Rattle.rules.specs.Start.{started}
+use Rattle.rules.specs.Answers.{Said, said, says_refused, is_refused, total, Outcome, outcome}
+use Rattle.rules.specs.declared.step.Answer.{Answer}
+use Rattle.rules.specs.declared.step.Answer.TheVariants.{Idle, Applied}
+use Rattle.rules.specs.declared.refusal.Refusal.{Refusal}
+use Rattle.rules.specs.Start.{unless_refused_start, started}
 use Rattle.rules.specs.Step.{stepped, Ready}
 use Rattle.rules.specs.Run.{State, state_of, start_state, next, after, answers}
 use Rattle.rules.specs.declared.group.Group.{Group}
@@ -156,6 +159,19 @@ module _ (vs l d : List ℕ) (some : 1 ≤ length vs) (few : length vs ≤ great
   passes h k =
       rw (le-ltb (length l) store_length (omega (arith, same-long)), le-ltb (length d) store_length (omega (arith, same-long)), among_in greatest_size (length vs) some few)
 
+  -- the start is refused over a short store alone
+  pub begin-refused : is_refused x ≡ (ltb (length l₁) store_length || ltb (length d₁) store_length)
+  unfolding started unless_refused_start start_refusal row short miscounted
+  begin-refused =
+      ap (λ (o : Outcome). is_refused o.says) e ∙ go (ltb (length l) store_length) (ltb (length d) store_length) refl refl
+      ∙ ap₂ (λ (m n : ℕ). ltb m store_length || ltb n store_length) (sym same-long.0) (sym same-long.1)
+    where
+      go : (a b : Bool) → ltb (length l) store_length ≡ a → ltb (length d) store_length ≡ b
+          → is_refused (started vs l d).says ≡ (ltb (length l) store_length || ltb (length d) store_length)
+      go true b p q = rw p
+      go false true p q = rw (p, q)
+      go false false p q = rw (p, q, among_in greatest_size (length vs) some few)
+
   pub begin-steady : store_length ≤ length l₁ → store_length ≤ length d₁ → Steady (state_with g l₁ d₁)
   unfolding started
   begin-steady h k =
@@ -163,6 +179,13 @@ module _ (vs l d : List ℕ) (some : 1 ≤ length vs) (few : length vs ≤ great
         sized = subst Sized (ap (λ (o : Outcome). o.group) (sym e)) starts.sized;
         ready = record { long = h; deep_long = k; sound = ap damaged (ap (λ (o : Outcome). o.group) e) ∙ starts.sound (passes h k) };
       }
+
+-- an answer that is an error is a refusal
+pub said-err : (a : Result Answer Refusal) → is_refused (said a) ≡ is_err a
+unfolding said
+said-err (Ok Idle) = refl
+said-err (Ok (Applied sent again decided)) = refl
+said-err (Err r) = refl
 
 -- ---- a sound file
 
@@ -182,6 +205,9 @@ module _ (s : List ℕ) (n : ℕ) (vs : List ℕ) (p : Places) (h : FormGood s n
 
   begun-is : begins schedule l d ≡ state_with g l₁ d₁
   begun-is = begin-is (take n vs) l d fits.size.0 fits.size.1 g l₁ d₁ x e
+
+  pub is-short : is_refused x ≡ (ltb (length l₁) store_length || ltb (length d₁) store_length)
+  is-short = begin-refused (take n vs) l d fits.size.0 fits.size.1 g l₁ d₁ x e
 
   pub sound-ready : (ltb (length l₁) store_length || ltb (length d₁) store_length) ≡ false → BothReady s p g l₁ d₁
   sound-ready k =
