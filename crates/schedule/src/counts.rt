@@ -20,6 +20,7 @@ pub struct Counts {
 }
 
 impl Counts {
+    #[tactic(auto, unfolding(crate::specs::Counts::counts_in, rules::specs::Answers::total))]
     pub(crate) fn none() -> Counts
         ensures { result ≡ counts.none }
     {
@@ -35,22 +36,19 @@ impl Counts {
     }
 
     // Of steps that are all refused.
+    #[tactic(auto, unfolding(crate::specs::Private::refused_all, crate::specs::Counts::counts_in, rules::specs::Answers::total))]
     pub(crate) fn refused(steps: u32) -> Counts
         ensures { result ≡ private.refused_all steps }
     {
         Counts {
             steps,
-            applied: 0,
-            idle: 0,
             refused: steps,
-            sent: 0,
-            again: 0,
-            decided: 0,
+            ..Counts::none()
         }
     }
 
-    #[tactic(auto, unfolding(crate::specs::Private::counted, rules::specs::Answers::said, rules::specs::Answers::is_refused))]
     // With one more step, which answered so or was refused.
+    #[tactic(auto, unfolding(crate::specs::Private::counted, rules::specs::Answers::said, rules::specs::Answers::is_refused))]
     pub(crate) fn counted(mut self, answer: Result<Answer, Refusal>) -> Counts
         requires { private.Room self }
         ensures { result ≡ private.counted self (said answer) }

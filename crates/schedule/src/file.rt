@@ -62,6 +62,7 @@ pub(crate) struct Form {
 }
 
 // Whether a file may have this many values.
+#[tactic(auto, unfolding(rules::specs::Limits::among))]
 pub(crate) fn is_size(n: u32) -> bool
     ensures { result ≡ among greatest_size n }
 {

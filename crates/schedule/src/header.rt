@@ -29,6 +29,7 @@ pub(crate) fn word_at(s: &[u8], at: usize, word: &[u8]) -> Result<usize, Broken>
 }
 
 // A space, a number and LF.
+#[tactic(auto, unfolding(crate::specs::Header::alone_at))]
 pub(crate) fn alone_at(s: &[u8], at: usize) -> Result<(u32, usize), Broken>
     ensures { result ≡ alone_at s.now at }
 {

@@ -17,6 +17,7 @@ pub(crate) struct Reader<'a> {
 
 impl<'a> Reader<'a> {
     // The step of the line here, and then the place behind the line; or the place where the line breaks the form.
+    #[tactic(auto, unfolding(crate::specs::Private::read_to))]
     pub(crate) fn line(&mut self) -> Result<Step, Broken>
         ensures same { self.new.file ≡ self.old.file }
         ensures read { line_at self.old.file.bytes.now self.old.at ≡ read_to result self.new.at }

@@ -15,6 +15,7 @@ pub struct Broken {
 }
 
 // Whether a byte is one of `0` to `9`.
+#[tactic(auto, unfolding(crate::specs::Number::is_digit))]
 pub fn is_digit(b: u8) -> bool
     ensures { result ≡ is_digit b }
 {
