@@ -1,6 +1,6 @@
 // Start: a group of fresh processes over a store that holds process 1's E of round 0 and nothing else.
 // A start is refused by 11, 14 or 1, and then leaves both stores as they were.
-ghost use Rattle.std.specs.Prelude.{◌≡◌, ◌≤◌, not, ltb, length, IfOk};
+ghost use Rattle.std.specs.Prelude.{◌≡◌, ◌≤◌, not, length, IfOk};
 ghost use Rattle.rules.specs.Limits as limits;
 ghost use Rattle.rules.specs.Answers as answers;
 ghost use Rattle.rules.specs.Refusals as refusals;
@@ -14,18 +14,13 @@ use crate::size::{Id, Size};
 use crate::step::Answer;
 use crate::store::Store;
 
-// The size of a start with n values over stores of these lengths; or refusal 11, 14 or 1.
+// The size of a start with n values over these stores; or refusal 11, 14 or 1.
 #[tactic(auto, unfolding(crate::specs::Private::refused_by, crate::specs::Answers::number_of, crate::specs::Refusals::row, crate::specs::Limits::some_if))]
-pub(crate) fn start_size(store: usize, depths: usize, n: usize) -> Result<Size, Refusal>
-    ensures err { private.refused_by result ≡ refusals.row (ltb store limits.store_length) 11 (refusals.row (ltb depths limits.store_length) 14 (refusals.row (not (limits.among limits.greatest_size n)) 1 0)) }
+pub(crate) fn start_size(store: &[u64], depths: &[u16], n: usize) -> Result<Size, Refusal>
+    ensures err { private.refused_by result ≡ refusals.row (refusals.short store.now) 11 (refusals.row (refusals.short depths.now) 14 (refusals.row (not (limits.among limits.greatest_size n)) 1 0)) }
     ensures ok { IfOk result (λ size. size ≡ n) }
 {
-    if store < Store::LENGTH {
-        return Err(Refusal::ShortStore);
-    }
-    if depths < Store::LENGTH {
-        return Err(Refusal::TooDeep);
-    }
+    Store::check(store, depths)?;
     Size::new(n).ok_or(Refusal::Values)
 }
 
@@ -72,7 +67,7 @@ impl Group {
     pub fn start(values: &[u32], store: &mut [u64], depths: &mut [u16]) -> Taken
         ensures { answers.outcome result.group store.new depths.new (answers.said result.answer) ≡ starts.started values.now store.old depths.old }
     {
-        match start_size(store.len(), depths.len(), values.len()) {
+        match start_size(store, depths, values.len()) {
             Ok(n) => {
                 begin(values[0], store, depths);
                 Taken {

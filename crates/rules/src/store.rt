@@ -1,14 +1,16 @@
 // The message store: the places of the messages, their entries, and handing over, its only writer beside the clearing at a start.
 // Beside it stands a second store: the depth of each message, at the same place.
-ghost use Rattle.std.specs.Prelude.{◌≡◌, ◌≤◌, ◌<◌, length, get_or, set, Some};
+ghost use Rattle.std.specs.Prelude.{◌≡◌, ◌≤◌, ◌<◌, length, get_or, set, Some, OnOk};
 ghost use Rattle.rules.specs.Limits as limits;
 ghost use Rattle.rules.specs.Store as stores;
 ghost use Rattle.rules.specs.Depths as dates;
+ghost use Rattle.rules.specs.Refusals as refusals;
 ghost use Rattle.rules.specs.Tally.{bit_of};
 ghost use Rattle.rules.specs.Private as private;
 
 use crate::group::Group;
 use crate::process::{Message, Next, Process};
+use crate::refusal::Refusal;
 use crate::size::Id;
 
 // The kinds of messages that have a round; the value of each as a number is its place among the three of a round and a process.
@@ -72,6 +74,21 @@ impl Store {
         ensures { result ≡ limits.store_length }
     {
         Store::LENGTH
+    }
+
+    // Refusals 11 and 14 of stores of these lengths.
+    #[tactic(auto, unfolding(crate::specs::Private::refused_by, crate::specs::Answers::number_of, crate::specs::Refusals::row, crate::specs::Refusals::short))]
+    pub(crate) fn check(store: &[u64], depths: &[u16]) -> Result<(), Refusal>
+        ensures rows { private.refused_by result ≡ refusals.row (refusals.short store.now) 11 (refusals.row (refusals.short depths.now) 14 0) }
+        ensures long { OnOk result ((limits.store_length ≤ length store.now) × (limits.store_length ≤ length depths.now)) }
+    {
+        if store.len() < Store::LENGTH {
+            return Err(Refusal::ShortStore);
+        }
+        if depths.len() < Store::LENGTH {
+            return Err(Refusal::TooDeep);
+        }
+        Ok(())
     }
 
     // Where the message of a round, a sender and a kind stands.

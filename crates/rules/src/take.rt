@@ -18,10 +18,7 @@ pub(crate) fn higher(old: u16, lift: u32) -> u16
     requires { lift ≤ limits.deepest_process }
     ensures { result ≡ max old lift }
 {
-    if (old as u32) < lift {
-        return lift as u16;
-    }
-    old
+    old.max(lift as u16)
 }
 
 impl Group {
@@ -74,12 +71,7 @@ impl Group {
     ) -> Result<Answer, Refusal>
         ensures { outcome self.new store.new depths.new (said result) ≡ steps.stepped self.old store.old depths.old step }
     {
-        if store.len() < Store::LENGTH {
-            return Err(Refusal::ShortStore);
-        }
-        if depths.len() < Store::LENGTH {
-            return Err(Refusal::TooDeep);
-        }
+        Store::check(store, depths)?;
         if self.is_damaged() {
             return Err(Refusal::Damaged);
         }

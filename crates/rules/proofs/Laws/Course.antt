@@ -317,6 +317,16 @@ short-outcome g l d s h = refused-outcome g l d s (sym (refuses g l d s (first-r
 pub shallow-outcome : (g : Group) (l d : List ℕ) (s : Step) → short l ≡ false → short d ≡ true → outcome g l d (says_refused 14) ≡ stepped g l d s
 shallow-outcome g l d s h z = refused-outcome g l d s (sym (refuses g l d s (second-row g l d s h z) (λ a. omega arith)))
 
+-- the rows of both stores at once
+pub wanting-outcome : (g : Group) (l d : List ℕ) (s : Step) {k : ℕ} → row (short l) 11 (row (short d) 14 0) ≡ k → ¬ (k ≡ 0) → outcome g l d (says_refused k) ≡ stepped g l d s
+unfolding row
+wanting-outcome g l d s {k} e h = go (short l) (short d) refl refl e
+  where
+  go : (x y : Bool) → short l ≡ x → short d ≡ y → row x 11 (row y 14 0) ≡ k → outcome g l d (says_refused k) ≡ stepped g l d s
+  go true y p q w = rw (sym w) (short-outcome g l d s p)
+  go false true p q w = rw (sym w) (shallow-outcome g l d s p q)
+  go false false p q w = absurd (h (sym w))
+
 pub damaged-outcome : (g : Group) (l d : List ℕ) (s : Step) → short l ≡ false → short d ≡ false → damaged g ≡ true
     → outcome g l d (says_refused 2) ≡ stepped g l d s
 damaged-outcome g l d s h z y = refused-outcome g l d s (sym (refuses g l d s (third-row g l d s h z y) (λ a. omega arith)))

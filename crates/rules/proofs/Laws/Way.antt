@@ -1,9 +1,9 @@
 -- The way of a step is its course with what lifts a depth; a handing over goes by the message's spot. Assumes nothing.
-use Rattle.std.specs.Prelude.{Option, Some, None, is_some, length}
+use Rattle.std.specs.Prelude.{Option, Some, None, is_some, length, set}
 use Rattle.rules.specs.declared.refusal.Refusal.{Refusal}
 use Rattle.rules.specs.declared.refusal.Refusal.TheVariants.{Values, Damaged, NoProcess, NoRound, Down, NotSent, NotPossible, PastLastRound, ShortStore, TooManyRecoveries, TooDeep}
 use Rattle.rules.specs.Answers.{number_of}
-use mathlib.Core.Path.{◌≡◌, refl, sym, ap, ap₂, ◌∙◌}
+use mathlib.Core.Path.{◌≡◌, refl, sym, ap, ap₂, ◌∙◌, subst}
 use mathlib.Core.Bool.{Bool, true, false, not}
 use mathlib.Core.List.{List}
 use Prim.Native.Nat.{ℕ, ◌+◌, ◌≤◌, ◌<◌, max}
@@ -18,16 +18,17 @@ use Rattle.rules.specs.declared.step.Step.{Step}
 use Rattle.rules.specs.declared.step.Step.TheVariants.{DeliverE, DeliverS, DeliverF, DeliverDecision, Suspect, Pause, Crash, Recover}
 use Rattle.rules.specs.Limits.{deepest_message, deepest_process}
 use Rattle.rules.specs.Layout.{process_at, depth_at}
-use Rattle.rules.specs.Store.{hand_over, repeats}
+use Rattle.rules.specs.Store.{hand_over, sent_bit, repeats, one}
+use Rattle.rules.specs.declared.store.Spot.{Spot}
 use Rattle.rules.specs.declared.store.Traffic.{Traffic}
 use Rattle.rules.specs.Kinds.{taker_of, delivers, slot_of, entry_in}
 use Rattle.rules.specs.Idle.{idle, idle_e, idle_s, idle_f}
-use Rattle.rules.specs.Depths.{delivered_depth, raises, raised, depth_after, dated}
+use Rattle.rules.specs.Depths.{delivered_depth, raises, raised, depth_after, dated, dated_at}
 use Rattle.rules.specs.Refusals.{too_deep, is_recover}
 use Rattle.rules.specs.Step.{Course, Idles, Refuses, Takes, course, settled, stepped, Ready}
 use Rattle.rules.proofs.Laws.Course.{held-course, taken-outcome}
 use Rattle.rules.proofs.Laws.Passing.{course-takes}
-use Rattle.rules.specs.Private.{Rests, Stops, Moves, place_or, Placed, heard_at, entry_heard, depth_heard, number_rows, held_rows, last_course, held_course, lifted, lift_unless, lifts, lift_of, HandsOver, HandsOverBoth}
+use Rattle.rules.specs.Private.{Rests, Stops, Moves, place_or, Placed, heard_at, entry_heard, depth_heard, number_rows, held_rows, last_course, held_course, lifted, lift_unless, lifts, lift_of, HandsOver, HandsOverBoth, spot_of}
 
 -- ---- which course a way has
 
@@ -155,7 +156,16 @@ module _ (g : Group) (l d : List ℕ) (s : Step) {i k : ℕ} {x : Next} (e : lif
       let w = way-takes _ (course g l d s) e in
       taken-outcome g l d s (ap₂ (λ (j m : ℕ). max (depth_at g j) m) (course-takes g l d s w.0).2 (sym w.1) ∙ lift-depth g d s) w.0
 
--- ---- handing over
+-- ---- handing over by the message's spot
+
+-- what writing an entry at a place leaves, where the place and the entry are the message's
+pub hands-spot : (i k : ℕ) (l d : List ℕ) (m : Message) {s : Spot} {again : ℕ} {l' d' : List ℕ} → spot_of i m ≡ s
+    → (l' ≡ set l s.place s.entry) × (d' ≡ dated_at s.place k l d) × (again ≡ sent_bit (get_or l s.place 0))
+    → HandsOver i (Some m) k l d l' d' (record { sent = 1; again = again })
+unfolding hand_over dated one repeats
+hands-spot i k l d m {s} {again} {l'} {d'} e w =
+    let v = subst (λ (t : Spot). (l' ≡ set l t.place t.entry) × (d' ≡ dated_at t.place k l d) × (again ≡ sent_bit (get_or l t.place 0))) (sym e) w in
+    record { store = v.0; depths = v.1; sent = refl; again = v.2 }
 
 -- one message, and then another
 pub hands-both : {i k : ℕ} {a b : Traffic} {m m' : Option Message} {l d once deep last deeper : List ℕ} → HandsOver i m k l d once deep a → HandsOver i m' k once deep last deeper b

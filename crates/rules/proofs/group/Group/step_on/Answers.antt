@@ -1,19 +1,22 @@
 -- `Group::step_on` meets its contract: refusals 11, 14 and 2 first, then the step. Assumes nothing.
-use Rattle.rules.proofs.Laws.Course.{short-outcome, shallow-outcome, damaged-outcome}
+use Rattle.rules.proofs.Laws.Course.{wanting-outcome, damaged-outcome}
+use Rattle.rules.proofs.Laws.Way.{number-some}
 use Rattle.rules.specs.Refusals.{short}
 use Rattle.rules.specs.Answers.{said, number_of}
-use borrow.Author.Tests.{lt-ltb, le-ltb}
+use Rattle.rules.specs.Private.{refused_by}
+use Rattle.std.proofs.lemmas.Result.{err_from_is_err_and}
+use borrow.Author.Tests.{le-ltb}
 use mathlib.Core.Path.{sym, ◌∙◌}
 use Rattle.rules.proofs.group.Group.step_on.Goals as goal
 
-pub returns-then-store-lt-LENGTH : goal.returns-then-store-lt-LENGTH
-unfolding said number_of short
-returns-then-store-lt-LENGTH c = short-outcome _ _ _ _ (lt-ltb _ _ c.if-store-lt-LENGTH.true)
-
-pub returns-then-depths-lt-LENGTH : goal.returns-then-depths-lt-LENGTH
-unfolding said number_of short
-returns-then-depths-lt-LENGTH c = shallow-outcome _ _ _ _ (le-ltb _ _ c.if-store-lt-LENGTH.false) (lt-ltb _ _ c.if-depths-lt-LENGTH.true)
+pub returns-in_err-check : goal.returns-in_err-check
+unfolding said refused_by
+returns-in_err-check c =
+    let p = err_from_is_err_and c.from_residual.result c.from_residual.ensures.1 in
+    rw (p.1, p.2) (wanting-outcome _ _ _ _ (sym c.in_err-check.ensures.rows) (number-some _))
 
 pub returns-then-is_damaged : goal.returns-then-is_damaged
 unfolding said number_of short
-returns-then-is_damaged c = damaged-outcome _ _ _ _ (le-ltb _ _ c.if-store-lt-LENGTH.false) (le-ltb _ _ c.if-depths-lt-LENGTH.false) (sym c.is_damaged.ensures ∙ c.if-is_damaged.true)
+returns-then-is_damaged c =
+    let w = c.in_ok-check.ensures.long in
+    damaged-outcome _ _ _ _ (le-ltb _ _ w.0) (le-ltb _ _ w.1) (sym c.is_damaged.ensures ∙ c.if-is_damaged.true)
