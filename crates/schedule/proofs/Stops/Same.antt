@@ -22,14 +22,6 @@ use Rattle.schedule.proofs.Stops.Begins.{word-begins}
 
 -- ---- where each thing that is read stops
 
-abbrev stop_of_item : {A : Type 0} → Read A → ℕ
-stop_of_item (Err p) = p.place
-stop_of_item (Ok (x, m)) = m
-
-abbrev stop_of_end : Read Bool → ℕ
-stop_of_end (Err p) = p.place
-stop_of_end (Ok (x, m)) = m
-
 abbrev stop_of_word : Result ℕ Broken → ℕ
 stop_of_word (Err p) = p.place
 stop_of_word (Ok n) = n
@@ -75,7 +67,7 @@ next-local : (at : ℕ) (w : Bool) → Local stop_at at (λ s. next_number s at 
 unfolding next_number
 next-local at w = local-pick w (spaced-local at) (local-none (omega arith))
 
-end-local : (at : ℕ) (may : Bool) → Local stop_of_end at (λ s. end_at s at may)
+end-local : (at : ℕ) (may : Bool) → Local stop_at at (λ s. end_at s at may)
 unfolding end_at
 end-local at may =
     local-byte
@@ -88,15 +80,15 @@ end-local at may =
     (λ d. local-pick (eqb d 10) (local-none (omega arith)) (local-none (omega arith)))))
     (local-none (omega arith))))) (local-none (omega arith))) (local-none (omega arith))))
 
-end-stop : (b : Letter) (i j r : ℕ) (q : Read Bool) → stop_of_end q ≡ stop_of_item (on_read q bad (λ x e. got (step_of b i j r x) e))
+end-stop : (b : Letter) (i j r : ℕ) (q : Read Bool) → stop_at q ≡ stop_at (on_read q bad (λ x e. got (step_of b i j r x) e))
 end-stop b i j r (Err p) = refl
 end-stop b i j r (Ok (x, m)) = refl
 
-ended-local : (b : Letter) (i j r at : ℕ) → Local stop_of_item at (λ s. ended_at b i j r s at)
+ended-local : (b : Letter) (i j r at : ℕ) → Local stop_at at (λ s. ended_at b i j r s at)
 unfolding ended_at
 ended-local b i j r at = local-made (λ q. on_read q bad (λ x e. got (step_of b i j r x) e)) (end-stop b i j r) (end-local at (may_cut b))
 
-after-local : (b : Letter) (at : ℕ) → Local stop_of_item at (λ s. after_letter b s at)
+after-local : (b : Letter) (at : ℕ) → Local stop_at at (λ s. after_letter b s at)
 unfolding after_letter
 after-local b at =
     local-on bad (λ p. refl)
@@ -106,11 +98,11 @@ after-local b at =
     (next-local n (ltb 1 (numbers_after b))))
     (next-local at true)
 
-letter-local : (at : ℕ) (o : Option Letter) → Local stop_of_item at (λ s. on_letter o (bad at) (λ b. after_letter b s (at + 1)))
+letter-local : (at : ℕ) (o : Option Letter) → Local stop_at at (λ s. on_letter o (bad at) (λ b. after_letter b s (at + 1)))
 letter-local at None = local-none (omega arith)
 letter-local at (Some b) = local-later {n = at + 1} (omega arith) (after-local b (at + 1))
 
-line-local : (at : ℕ) → Local stop_of_item at (λ s. line_at s at)
+line-local : (at : ℕ) → Local stop_at at (λ s. line_at s at)
 unfolding line_at
 line-local at = local-byte (λ c s. on_letter (letter_of c) (bad at) (λ b. after_letter b s (at + 1))) (λ c. letter-local at (letter_of c))
 
