@@ -153,8 +153,8 @@ impl Group {
             return true;
         };
         let mut sound = true;
-        for k in 0..Group::GREATEST {
-            sound = sound & (self.members[k].is_sound(n) | (self.n as usize <= k));
+        for (k, member) in self.members.iter().enumerate() {
+            sound = sound & (member.is_sound(n) | (self.n as usize <= k));
         }
         !sound
     }

@@ -117,23 +117,17 @@ impl Process {
     }
 
     // The record of process i at a start.
-    #[tactic(auto, unfolding(crate::specs::Start::fresh))]
+    #[tactic(auto, unfolding(crate::specs::Start::fresh, crate::specs::Records::blank))]
     pub(crate) fn fresh(i: Id, value: u32) -> Process
         ensures { result ≡ starts.fresh i value }
     {
         Process {
             first: value,
-            round: 0,
             phase: 1,
             proposer: i.number(),
             value,
-            marked: false,
-            decided: false,
-            decision: 0,
-            recoveries: 0,
             up: true,
-            estimates: 0,
-            suspicions: 0,
+            ..Process::blank()
         }
     }
 

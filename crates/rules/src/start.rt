@@ -53,10 +53,10 @@ impl Group {
             n: n.number(),
             ..Group::none()
         };
-        for k in 0..values.len() {
+        for (k, &value) in values.iter().enumerate() {
             let i = Id::known(k as u32 + 1);
             group.members[k] = Member {
-                process: Process::fresh(i, values[k]),
+                process: Process::fresh(i, value),
                 depth: 0,
             };
         }

@@ -22,6 +22,7 @@ deciders g = count (λ i. (process_at g i).decided) g.n
 
 -- of the schedule h and of all that its run over the stores l and d, of at least 3,088 numbers each, yields
 pub record Promise (h : Schedule) (l d : List ℕ) (o : RanOver) : Type 0 where
+  -- it was run, and this was answered
   pub ran : Ran
   pub is_run : o.ran ≡ Ok ran
   -- both sections have as many steps as were read

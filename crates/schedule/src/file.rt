@@ -74,7 +74,7 @@ pub(crate) fn read_opening(s: &[u8]) -> Result<Opening, Fault>
     requires { length s.now ≤ limits.longest }
     ensures { ValuesAre s.now result }
 {
-    // No `map_err`: its closure would have to say again which places `Fault::at` takes.
+    // No `map_err`: its closure would have to say again, in clauses of its own, what `Fault::at` asks and answers.
     let (n, first) = match heading(s, 0, b"VALUES") {
         Ok(header) => header,
         Err(broken) => return Err(Fault::at(Flaw::Form, 1, 0, broken.place)),

@@ -104,6 +104,7 @@ pub fn step_line(s: &[u8], at: usize) -> Result<(Step, usize), Broken>
 }
 
 // ---- a line that is known to keep the form: nothing is tested again
+// The functions above would read it too, and test each byte of it a second time (docs/SPEED.md).
 
 // The number at a place, and the place after it.
 pub(crate) fn known_number(s: &[u8], at: usize) -> (u32, usize)

@@ -28,7 +28,7 @@ pub(crate) fn part_at<'a>(
     requires { (line + left + 1 < 2 ^ 32) × (at ≤ length file.bytes.now) × (length file.bytes.now ≤ longest) }
     ensures { PartIs file.entry.bytes.now at word.now line left result }
 {
-    // No `map_err`: its closure would have to say again which places `Fault::at` takes.
+    // No `map_err`: its closure would have to say again, in clauses of its own, what `Fault::at` asks and answers.
     let (count, start) = match heading(file.bytes, at, word) {
         Ok(header) => header,
         Err(broken) => return Err(Fault::at(Flaw::Form, line, at, broken.place)),

@@ -152,8 +152,8 @@ module _ {A : Type 0} {stop : A → ℕ} {at : ℕ} where
   pub local-later : {n : ℕ} {f : List ℕ → A} → at ≤ n → Local stop n f → Local stop at f
   local-later g h = record { low = λ s. omega (arith, h.low s); same = h.same }
 
--- where a number stops
-abbrev pub stop_at : Read ℕ → ℕ
+-- where what is read stops
+abbrev pub stop_at : {A : Type 0} → Read A → ℕ
 stop_at (Err p) = p.place
 stop_at (Ok (v, n)) = n
 

@@ -22,39 +22,24 @@ use Rattle.schedule.proofs.Stops.Begins.{word-begins}
 
 -- ---- where each thing that is read stops
 
-abbrev stop_of_item : {A : Type 0} → Read A → ℕ
-stop_of_item (Err p) = p.place
-stop_of_item (Ok (x, m)) = m
-
-abbrev stop_of_end : Read Bool → ℕ
-stop_of_end (Err p) = p.place
-stop_of_end (Ok (x, m)) = m
-
 abbrev stop_of_word : Result ℕ Broken → ℕ
 stop_of_word (Err p) = p.place
 stop_of_word (Ok n) = n
 
--- what is made of what is read, where it stops at the same place
-local-made : {A B : Type 0} {stop : A → ℕ} {end : B → ℕ} {at : ℕ} {f : List ℕ → A} (g : A → B) → ((x : A) → stop x ≡ end (g x)) → Local stop at f → Local end at (λ s. g (f s))
-local-made {f = f} g e h = record {
-  low = λ s. omega (arith, h.low s, e (f s));
-  same = λ s t k. ap g (h.same s t (λ j q. k j (omega (arith, e (f s)))));
-}
+-- ---- a thing, and what is read on from its end; where the thing breaks the form, so does the whole
+module _ {A B : Type 0} (g : A → ℕ → List ℕ → Read B) (k : (x : A) (n : ℕ) → Local stop_at n (g x n)) where
+  on-low : (s : List ℕ) (r : Read A) → stop_at r ≤ stop_at (on_read r bad (λ x n. g x n s))
+  on-low s (Err e) = omega arith
+  on-low s (Ok (x, n)) = (k x n).low s
 
--- ---- a number, and what is read on from its end
-module _ {B : Type 0} {stop : B → ℕ} (bad : ℕ → B) (is : (p : ℕ) → p ≡ stop (bad p)) (g : ℕ → ℕ → List ℕ → B) (k : (v n : ℕ) → Local stop n (g v n)) where
-  on-low : (s : List ℕ) (r : Read ℕ) → stop_at r ≤ stop (on_read r bad (λ v n. g v n s))
-  on-low s (Err p) = omega (arith, is p.place)
-  on-low s (Ok (v, n)) = (k v n).low s
+  on_same : (s t : List ℕ) (r : Read A) → Same s t (stop_at (on_read r bad (λ x n. g x n s))) → on_read r bad (λ x n. g x n t) ≡ on_read r bad (λ x n. g x n s)
+  on_same s t (Err e) h = refl
+  on_same s t (Ok (x, n)) h = (k x n).same s t h
 
-  on_same : (s t : List ℕ) (r : Read ℕ) → Same s t (stop (on_read r bad (λ v n. g v n s))) → on_read r bad (λ v n. g v n t) ≡ on_read r bad (λ v n. g v n s)
-  on_same s t (Err p) e = refl
-  on_same s t (Ok (v, n)) e = (k v n).same s t e
-
-  local-on : {at : ℕ} {f : List ℕ → Read ℕ} → Local stop_at at f → Local stop at (λ s. on_read (f s) bad (λ v n. g v n s))
+  local-on : {at : ℕ} {f : List ℕ → Read A} → Local stop_at at f → Local stop_at at (λ s. on_read (f s) bad (λ x n. g x n s))
   local-on {f = f} h = record {
     low = λ s. omega (arith, h.low s, on-low s (f s));
-    same = λ s t e. ap (λ (r : Read ℕ). on_read r bad (λ v n. g v n t)) (h.same s t (λ j q. e j (omega (arith, on-low s (f s))))) ∙ on_same s t (f s) e;
+    same = λ s t e. ap (λ (r : Read A). on_read r bad (λ x n. g x n t)) (h.same s t (λ j q. e j (omega (arith, on-low s (f s))))) ∙ on_same s t (f s) e;
   }
 
 -- ---- the parts of a line
@@ -62,7 +47,7 @@ module _ {B : Type 0} {stop : B → ℕ} (bad : ℕ → B) (is : (p : ℕ) → p
 closed-local : (at : ℕ) (f : List ℕ → Read ℕ) → Local stop_at at f → Local stop_at at (λ s. closed s (f s))
 unfolding closed
 closed-local at f h =
-    local-on bad (λ p. refl) (λ v n s. pick (eqb (get_or s n 0) 10) (got v (n + 1)) (bad n))
+    local-on (λ v n s. pick (eqb (get_or s n 0) 10) (got v (n + 1)) (bad n))
     (λ v n. local-byte (λ b s. pick (eqb b 10) (got v (n + 1)) (bad n)) (λ b. local-pick (eqb b 10) (local-none (omega arith)) (local-none (omega arith)))) h
 
 spaced-local : (at : ℕ) → Local stop_at at (λ s. spaced_at s at)
@@ -75,7 +60,7 @@ next-local : (at : ℕ) (w : Bool) → Local stop_at at (λ s. next_number s at 
 unfolding next_number
 next-local at w = local-pick w (spaced-local at) (local-none (omega arith))
 
-end-local : (at : ℕ) (may : Bool) → Local stop_of_end at (λ s. end_at s at may)
+end-local : (at : ℕ) (may : Bool) → Local stop_at at (λ s. end_at s at may)
 unfolding end_at
 end-local at may =
     local-byte
@@ -88,29 +73,25 @@ end-local at may =
     (λ d. local-pick (eqb d 10) (local-none (omega arith)) (local-none (omega arith)))))
     (local-none (omega arith))))) (local-none (omega arith))) (local-none (omega arith))))
 
-end-stop : (b : Letter) (i j r : ℕ) (q : Read Bool) → stop_of_end q ≡ stop_of_item (on_read q bad (λ x e. got (step_of b i j r x) e))
-end-stop b i j r (Err p) = refl
-end-stop b i j r (Ok (x, m)) = refl
-
-ended-local : (b : Letter) (i j r at : ℕ) → Local stop_of_item at (λ s. ended_at b i j r s at)
+ended-local : (b : Letter) (i j r at : ℕ) → Local stop_at at (λ s. ended_at b i j r s at)
 unfolding ended_at
-ended-local b i j r at = local-made (λ q. on_read q bad (λ x e. got (step_of b i j r x) e)) (end-stop b i j r) (end-local at (may_cut b))
+ended-local b i j r at = local-on (λ x e s. got (step_of b i j r x) e) (λ x e. local-none (omega arith)) (end-local at (may_cut b))
 
-after-local : (b : Letter) (at : ℕ) → Local stop_of_item at (λ s. after_letter b s at)
+after-local : (b : Letter) (at : ℕ) → Local stop_at at (λ s. after_letter b s at)
 unfolding after_letter
 after-local b at =
-    local-on bad (λ p. refl)
+    local-on
     (λ i n s. on_read (next_number s n (ltb 1 (numbers_after b))) bad (λ j m. on_read (next_number s m (ltb 2 (numbers_after b))) bad (λ r l. ended_at b i j r s l)))
-    (λ i n. local-on bad (λ p. refl) (λ j m s. on_read (next_number s m (ltb 2 (numbers_after b))) bad (λ r l. ended_at b i j r s l))
-    (λ j m. local-on bad (λ p. refl) (λ r l s. ended_at b i j r s l) (λ r l. ended-local b i j r l) (next-local m (ltb 2 (numbers_after b))))
+    (λ i n. local-on (λ j m s. on_read (next_number s m (ltb 2 (numbers_after b))) bad (λ r l. ended_at b i j r s l))
+    (λ j m. local-on (λ r l s. ended_at b i j r s l) (λ r l. ended-local b i j r l) (next-local m (ltb 2 (numbers_after b))))
     (next-local n (ltb 1 (numbers_after b))))
     (next-local at true)
 
-letter-local : (at : ℕ) (o : Option Letter) → Local stop_of_item at (λ s. on_letter o (bad at) (λ b. after_letter b s (at + 1)))
+letter-local : (at : ℕ) (o : Option Letter) → Local stop_at at (λ s. on_letter o (bad at) (λ b. after_letter b s (at + 1)))
 letter-local at None = local-none (omega arith)
 letter-local at (Some b) = local-later {n = at + 1} (omega arith) (after-local b (at + 1))
 
-line-local : (at : ℕ) → Local stop_of_item at (λ s. line_at s at)
+line-local : (at : ℕ) → Local stop_at at (λ s. line_at s at)
 unfolding line_at
 line-local at = local-byte (λ c s. on_letter (letter_of c) (bad at) (λ b. after_letter b s (at + 1))) (λ c. letter-local at (letter_of c))
 
