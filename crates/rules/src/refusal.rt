@@ -29,12 +29,14 @@ pub enum Refusal {
     TooDeep = 14,
 }
 
-impl Refusal {
-    // The refusal's number in the table.
+// The refusal's number in the table.
+impl From<Refusal> for u8 {
+    ghost from_gives = { λ refusal number. number ≡ number_of refusal };
+
     #[tactic(auto, unfolding(crate::specs::Answers::number_of))]
-    pub fn number(self) -> u8
-        ensures { result ≡ number_of self }
+    fn from(refusal: Refusal) -> u8
+        ensures { result ≡ number_of refusal }
     {
-        self as u8
+        refusal as u8
     }
 }
