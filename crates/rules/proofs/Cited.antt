@@ -1,7 +1,7 @@
 -- What the crates above may cite: all else in this folder is for the rules alone. Assumes nothing.
 -- the theorem about runs
 pub use Rattle.rules.proofs.Theorem.{safety}
--- every state of a run: its size, its columns, that its steps can be taken, and a list of steps in two parts
+-- every state of a run: its size, its members, that its steps can be taken, and a list of steps in two parts
 pub use Rattle.rules.proofs.Depths.Basics.{DeepBasic, deep-size, deep-fine, start-deep, deep-basic, deep_more}
 pub use Rattle.rules.proofs.Laws.Sound.{Fine}
 -- a start and a step of any group over any stores: what is refused leaves all as it was, sizes and lengths stay, and what is sound stays so

@@ -69,7 +69,7 @@ settled g l d k (Takes i x) =
 unfoldable pub stepped : Group → List ℕ → List ℕ → Step → Outcome
 stepped g l d s = settled g l d (depth_after g d s) (course g l d s)
 
--- ---- what the step that a run takes asks: `step_sound`, the one public function with a `requires`
+-- ---- what the step that a run takes asks: `step_sound`, the one public function of the rules with a `requires`
 
 -- both stores are long, and the group is not damaged: 11, the short 14 and the group's 2 are ruled out
 pub record Ready (g : Group) (l d : List ℕ) : Type 0 where

@@ -103,7 +103,7 @@ impl Heard {
     }
 }
 
-// ---- the step alone
+// ---- the step alone. The three addresses are no twins: they differ in which numbers are tested, whether there is a round, and which place is meant
 
 // The address of an E, S or F.
 #[tactic(auto, unfolding(crate::specs::Private::told_address, crate::specs::Private::unless_missed, crate::specs::Private::place_or, crate::specs::Answers::number_of, crate::specs::Refusals::row, crate::specs::Limits::some_if))]
@@ -158,7 +158,7 @@ pub(crate) fn own_address(n: Size, process: u32, recovers: bool) -> Result<Addre
 }
 
 impl Step {
-    // Where the step leads in a group of n: refusals 3 and 4, then what it reads.
+    // Where the step leads in a group of n: refusals 3 and 4, then what it reads. A match over the eight kinds, in which each arm is a call.
     #[tactic(auto, unfolding(crate::specs::Private::address_of, crate::specs::Private::number_rows, crate::specs::Kinds::numbers_of, crate::specs::Refusals::every, crate::specs::Refusals::late, crate::specs::Refusals::row, crate::specs::Kinds::round_of, crate::specs::Kinds::taker_of, crate::specs::Kinds::slot_of, crate::specs::Kinds::delivers, crate::specs::Refusals::is_recover, crate::specs::Private::kind_of))]
     pub(crate) fn address(self, n: Size) -> Result<Address, Refusal>
         ensures { private.told_address result ≡ private.address_of n self }
@@ -211,9 +211,9 @@ pub(crate) fn held(
     }
 }
 
-// ---- ways of one process. Those of the four kinds of delivery are four functions: one that is given the idle test and the event costs a fifth of a step more (docs/SPEED.md)
+// ---- ways of one process. Those of the four kinds of delivery are four functions: one that is given the idle test and the event cost a fifth of all work more, and with today's compiler was not tried again (docs/SPEED.md)
 
-// A step that hears nothing and is taken.
+// A step that hears nothing and is taken: the depth becomes the greater of itself and 0.
 #[tactic(auto, unfolding(crate::specs::Private::told, crate::specs::Private::lifted))]
 pub(crate) fn way_on(i: Id, next: Next) -> Option<Taking>
     ensures { private.told (Ok result) ≡ private.lifted 0 (steps.Takes i next) }
@@ -283,7 +283,7 @@ impl Process {
         })
     }
 
-    // An F that would take the process past the last round is refused.
+    // An F that would take the process past the last round is refused. It asks what `on_f` asks.
     #[tactic(auto, unfolding(crate::specs::Private::told, crate::specs::Private::lifted, crate::specs::Private::lift_unless, crate::specs::Step::or_idle, crate::specs::Private::or_past, crate::specs::Private::unless_past, crate::specs::Answers::number_of))]
     pub(crate) fn way_f(
         self,

@@ -11,7 +11,7 @@ ghost use Rattle.rules.specs.Start as starts;
 use crate::size::{Id, Size};
 use crate::tally;
 
-// A message that a process hands over. It is for all; its sender is the process.
+// A message that a process hands over. It is for all; its sender is the process. E and F keep proposer and value apart, as document 01's entries and the definitions have them.
 #[derive(Clone, Copy)]
 pub enum Message {
     E { round: u8, proposer: u8, value: u32 },
@@ -20,7 +20,7 @@ pub enum Message {
     Decision { value: u32 },
 }
 
-// An estimate: the process that proposed it, and its value.
+// An estimate that a message carries: the process that proposed it, and its value. A record keeps the two apart, since its order is by width.
 #[derive(Clone, Copy)]
 pub struct Estimate {
     pub proposer: u8,
@@ -99,7 +99,7 @@ impl Process {
     // The last round that a process can be in.
     pub const LAST_ROUND: u8 = 63;
 
-    // The constant is the definitions' limit. It takes a function to say so: a constant has no clause of its own.
+    // The constant is the definitions' limit. It takes a function to say so: a constant has no clause of its own, and one function for all limits could not name the constant.
     pub(crate) fn last_round() -> u8
         ensures { result ≡ limits.last_round }
     {
@@ -370,7 +370,7 @@ impl Process {
         recovered.quiet()
     }
 
-    // ---- what makes a delivery idle, and a suspicion possible
+    // ---- what makes a delivery idle, and a suspicion possible. The three of a message with a round are no twins: they differ in the rule, at another round, in either phase and in the tally, and not in a number
 
     // The process has decided, or is past the round.
     #[tactic(auto, unfolding(crate::specs::Idle::past_for))]
@@ -485,7 +485,7 @@ impl Next {
         self
     }
 
-    // At a majority of F heard: the next round, and the E of its coordinator.
+    // At a majority of F heard: the next round, and the E of its coordinator. It asks what `on_f` asks.
     #[tactic(auto, unfolding(crate::specs::Events::enters_next_at, crate::specs::Events::enters_next_if))]
     pub(crate) fn enters_next_at(self, seat: Seat) -> Next
         requires { self.process.round ≤ limits.last_round }

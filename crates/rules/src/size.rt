@@ -21,7 +21,7 @@ impl Model for Size {
     ghost inverse = { λ n. record { n = n } };
 }
 
-// The number of a process of some group. A clause sees the number.
+// The number of a process of some group. A clause sees the number. It is a type of its own beside `Size`, though its numbers are the same: a size in the place of a process is then no program.
 #[derive(Clone, Copy)]
 pub struct Id {
     number: u8,

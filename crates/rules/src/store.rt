@@ -109,7 +109,7 @@ impl Store {
         Store::LENGTH - Group::GREATEST + (sender.number() - 1) as usize
     }
 
-    // The entry of an estimate.
+    // The entry of an estimate, or of a message that carries the value alone or none, with its sender as the proposer.
     pub(crate) fn entry_of(proposer: u8, value: u32) -> u64
         ensures { result ≡ stores.entry_of proposer value }
     {
@@ -172,7 +172,7 @@ impl Store {
         }
     }
 
-    // Process i hands a message over at a depth, if there is one.
+    // Process i hands a message over at a depth, if there is one. Its round is asked and is no type's, as at `Process::on_f`.
     #[tactic(auto, unfolding(crate::specs::Private::spot_of, crate::specs::Store::hand_over, crate::specs::Depths::dated, crate::specs::Store::one, crate::specs::Store::repeats))]
     pub(crate) fn hand_over(
         store: &mut [u64],

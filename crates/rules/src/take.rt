@@ -45,7 +45,7 @@ impl Group {
         }
     }
 
-    // One step of a group that is not damaged over stores that are not short: the one public function that asks something of its caller.
+    // One step of a group that is not damaged over stores that are not short: the one public function of the rules that asks something of its caller.
     // It is for a run that has proved it of its states; everybody else has `step_on` and `step`.
     pub fn step_sound(
         &mut self,

@@ -637,7 +637,7 @@ module _ (n i : ℕ) (x : Next) (l : List ℕ) where
         omega (arith, length-append (one i x.first) (one i x.second))
 
 module _ (g : Group) (l : List ℕ) (s : Step) where
-  -- the group keeps its size and its columns
+  -- the group keeps its size and its sixteen members
   pub step-size : (stepped g l s).group.n ≡ g.n
   step-size =
       step_by (λ (g' : Group) (l' : List ℕ). g'.n ≡ g.n) g l s refl (λ i x h. with_size g i x.process)
@@ -735,7 +735,7 @@ sound-start vs l e =
     ap (λ (o : Outcome). damaged o.group) (start-begun vs l e)
     ∙ facts-sound (started_to vs (length vs)) (sound-started vs h.1 h.2)
 
--- any start makes whole columns
+-- any start makes sixteen members
 pub sized-start : (vs l : List ℕ) → Sized (started vs l).group
 unfolding started unless_refused_start begun
 sized-start vs l = go (start_refusal vs l)

@@ -113,7 +113,7 @@ sound-put g i k p sized e lo hi w le =
         omega (arith, depth-kept (with_process g i p) i k j lo a ne, depth-with g i p j, f.1 j a b)
 
 module _ (g : Group) (l d : List ℕ) (s : Step) where
-  -- the group keeps its size and its columns
+  -- the group keeps its size and its sixteen members
   pub deep-step-size : (stepped g l d s).group.n ≡ g.n
   unfolding with_depth with_process
   deep-step-size = deep-step-by (λ (g' : Group) (l' d' : List ℕ). g'.n ≡ g.n) g l d s refl (λ x t p. refl)
@@ -155,7 +155,7 @@ deep-start-passed vs l d e =
     let sized = among-true greatest_size (length vs) (not-false (among greatest_size (length vs)) b.0) in
     (ltb-false (length l) store_length a.0, ltb-false (length d) store_length c.0, sized.0, sized.1)
 
--- any start makes whole columns, of a group of at most 16 processes, and keeps the lengths of both stores; and one that is not refused makes a sound group
+-- any start makes sixteen members, of a group of at most 16 processes, and keeps the lengths of both stores; and one that is not refused makes a sound group
 pub record Starting (vs l d : List ℕ) (k : ℕ) : Type 0 where
   pub sized : Sized (unless_refused_start k vs l d).group
   pub size : (unless_refused_start k vs l d).group.n ≤ greatest_size
