@@ -23,7 +23,7 @@ impl Report {
     // No report is longer: with ten digits to a number a section's line has at most 126 bytes, the line of PROCESSES 21, and each of 16 process lines 93.
     pub const LONGEST: usize = 1761;
 
-    // The constant is the definitions' limit.
+    // The constant is the definitions' limit. It takes a function to say so: a constant has no clause of its own.
     pub(crate) fn longest() -> usize
         ensures { result ≡ private.longest_report }
     {

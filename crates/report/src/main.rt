@@ -10,6 +10,7 @@ use std::io;
 
 // A read that fails is the end of the input. A write that fails ends the program with an error.
 fn main(rt: HostRuntime) -> io::Result<()> {
+    // All of it is of a size that is known, and nothing is allocated: so there is nothing that can fail to be.
     let mut file = [0u8; File::LONGEST + 1];
     let mut store = [0u64; Store::LENGTH];
     let mut depths = [0u16; Store::LENGTH];

@@ -49,6 +49,7 @@ fn sweep_open<R: Read>(
     store: &mut [u64; Store::LENGTH],
     depths: &mut [u16; Store::LENGTH],
 ) -> io::Result<()> {
+    // Lent arrays of a size that is known: nothing is allocated, so there is nothing that can fail to be.
     let mut file = [0u8; File::LONGEST + 1];
     let n = read_full(from, &mut file);
     if n <= File::LONGEST && !at_end(from) {
