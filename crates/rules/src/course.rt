@@ -211,7 +211,7 @@ pub(crate) fn held(
     }
 }
 
-// ---- ways of one process. Those of the four kinds of delivery are four functions, since they differ in their rules, the idle test and the event; one that is given both cost 21 to 30 in a hundred more with an older kit (docs/SPEED.md)
+// ---- ways of one process. Those of the four kinds of delivery are four functions: they differ in the idle test and in the event, and one function that is given what both of them give costs 4 in a hundred more (docs/SPEED.md)
 
 // A step that hears nothing and is taken: the depth becomes the greater of itself and 0.
 #[tactic(auto, unfolding(crate::specs::Private::told, crate::specs::Private::lifted))]
