@@ -33,7 +33,7 @@ impl<'a> Lined<'a> {
         ensures { result.bytes ≡ bytes.entry }
     {
         for k in (0..bytes.len()).rev() {
-            if bytes[k] == 10 {
+            if bytes[k] == b'\n' {
                 return Lined { bytes, end: k + 1 };
             }
         }

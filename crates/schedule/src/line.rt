@@ -17,7 +17,7 @@ pub(crate) fn spaced_at<L: Look>(s: &[u8], at: usize) -> Result<(u32, usize), Br
     requires { L.may s.now at }
     ensures { result ≡ spaced_at s.now at }
 {
-    if L::byte(s, at) == 32 {
+    if L::byte(s, at) == b' ' {
         decimal_by::<L>(s, at + 1)
     } else {
         Err(Broken { place: at })
@@ -46,19 +46,19 @@ pub(crate) fn end_at<L: Look>(s: &[u8], at: usize, may: bool) -> Result<(bool, u
     ensures { result ≡ end_at s.now at may }
 {
     let first = L::byte(s, at);
-    if first == 10 {
+    if first == b'\n' {
         return Ok((false, at + 1));
     }
     if !may {
         return Err(Broken { place: at });
     }
-    if first != 32 {
+    if first != b' ' {
         return Err(Broken { place: at });
     }
-    if L::byte(s, at + 1) != 88 {
+    if L::byte(s, at + 1) != b'X' {
         return Err(Broken { place: at + 1 });
     }
-    if L::byte(s, at + 2) != 10 {
+    if L::byte(s, at + 2) != b'\n' {
         return Err(Broken { place: at + 2 });
     }
     Ok((true, at + 3))
@@ -110,11 +110,11 @@ pub(crate) fn known_number(s: &[u8], at: usize) -> (u32, usize)
     requires { KnownNumber s.now at }
     ensures { number_at s.now at ≡ Ok result }
 {
-    let mut value: u32 = (s[at] - 48) as u32;
+    let mut value: u32 = (s[at] - b'0') as u32;
     let mut next = at + 1;
     // No `for` over the places: it would end with the file too, where this reading never comes, and test for that at each byte.
     while is_digit(s[next]) {
-        value = value * 10 + (s[next] - 48) as u32;
+        value = value * 10 + (s[next] - b'0') as u32;
         next += 1;
     }
     (value, next)
@@ -142,7 +142,7 @@ pub(crate) fn known_line(s: &[u8], at: usize) -> (Step, usize)
     let (a, n) = known_next(s, at + 1, true);
     let (b, m) = known_next(s, n, 1 < count);
     let (c, end) = known_next(s, m, 2 < count);
-    let cut = s[end] == 32;
+    let cut = s[end] == b' ';
     let step = letter.step(a, b, c, cut);
     let next = if cut { end + 3 } else { end + 1 };
     (step, next)
