@@ -1,5 +1,5 @@
 // A schedule file, whole: VALUES, WARMUP and MEASURED in that order, and nothing after the last step.
-// A file is sound, or has one fault: its number, its line and its column.
+// A file is sound, or has one fault: its flaw, its line and its column.
 ghost use Rattle.std.specs.Prelude.{◌≡◌, ◌≤◌, length};
 ghost use Rattle.rules.specs.Limits.{greatest_size, among};
 ghost use Rattle.schedule.specs.Limits as limits;
@@ -22,7 +22,7 @@ impl File {
 
     pub const MOST_STEPS: u32 = 4096;
 
-    // The constants are the definitions' limits.
+    // The constants are the definitions' limits. It takes a function to say so: a constant has no clause of its own.
     pub(crate) fn longest() -> usize
         ensures { result ≡ limits.longest }
     {

@@ -32,11 +32,10 @@ impl<'a> Lined<'a> {
     pub(crate) fn new(bytes: &'a [u8]) -> Lined<'a>
         ensures { result.bytes ≡ bytes.entry }
     {
-        for k in (0..bytes.len()).rev() {
-            if bytes[k] == b'\n' {
-                return Lined { bytes, end: k + 1 };
-            }
-        }
-        Lined { bytes, end: 0 }
+        let end = match bytes.iter().rposition(|byte| *byte == b'\n') {
+            Some(k) => k + 1,
+            None => 0,
+        };
+        Lined { bytes, end }
     }
 }

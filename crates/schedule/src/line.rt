@@ -25,6 +25,7 @@ pub(crate) fn spaced_at<L: Look>(s: &[u8], at: usize) -> Result<(u32, usize), Br
 }
 
 // The same where one more number is wanted, and otherwise nothing read.
+// The flag and the 0 stay, and no `Option`: the definition `Line.next_number` says both, of every input.
 pub(crate) fn next_number<L: Look>(
     s: &[u8],
     at: usize,
@@ -96,7 +97,7 @@ pub(crate) fn line_by<L: Look>(s: &[u8], at: usize) -> Result<(Step, usize), Bro
     ended_at::<L>(s, l, letter, a, b, c)
 }
 
-// The same at any place of any bytes.
+// The same at any place of any bytes: a public function, which stays as it was.
 pub fn step_line(s: &[u8], at: usize) -> Result<(Step, usize), Broken>
     ensures { result ≡ line_at s.now at }
 {
@@ -104,6 +105,7 @@ pub fn step_line(s: &[u8], at: usize) -> Result<(Step, usize), Broken>
 }
 
 // ---- a line that is known to keep the form: nothing is tested again
+// It is read by functions of its own: on `long_five` 1,366,572 instructions, with `line_by` of `Untested` in their place 1,908,053, of `Tested` 1,793,712 (docs/SPEED.md).
 
 // The number at a place, and the place after it.
 pub(crate) fn known_number(s: &[u8], at: usize) -> (u32, usize)
@@ -120,7 +122,7 @@ pub(crate) fn known_number(s: &[u8], at: usize) -> (u32, usize)
     (value, next)
 }
 
-// The number behind a space where one more is wanted, and otherwise nothing read.
+// The number behind a space where one more is wanted, and otherwise nothing read: the flag and the 0 are `next_number`'s.
 pub(crate) fn known_next(s: &[u8], at: usize, wanted: bool) -> (u32, usize)
     requires { KnownNext s.now at wanted }
     ensures { next_number s.now at wanted ≡ Ok result }

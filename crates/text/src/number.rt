@@ -28,7 +28,7 @@ pub fn is_digit(b: u8) -> bool
     b.is_ascii_digit()
 }
 
-// The byte at a place; 0 past the end.
+// The byte at a place; 0 past the end: a public function, which stays as it was.
 pub fn byte_at(s: &[u8], at: usize) -> u8
     ensures { result ≡ get_or s.now at 0 }
 {
@@ -74,7 +74,7 @@ pub fn decimal_by<L: Look>(s: &[u8], at: usize) -> Result<(u32, usize), Broken>
     digits_from::<L>(s, at + 1, (first - b'0') as u64)
 }
 
-// The same at any place.
+// The same at any place: a public function, which stays as it was.
 pub fn decimal(s: &[u8], at: usize) -> Result<(u32, usize), Broken>
     ensures { result ≡ number_at s.now at }
 {
