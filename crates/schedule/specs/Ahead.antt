@@ -10,6 +10,7 @@ pub record Ahead (s : List ℕ) (at : ℕ) : Type 0 where
   pub high : end ≤ length s
   pub lf : get_or s (end - 1) 0 ≡ 10
 
+-- the law of a ghost member: the code takes its words from specs alone
 pub ahead_next : (s : List ℕ) (at : ℕ) → Ahead s at → get_or s at 0 ≢ 10 → Ahead s (at + 1)
 ahead_next s at h n = go (dec_lt (at + 1) h.end)
   where

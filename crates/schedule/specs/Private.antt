@@ -10,14 +10,16 @@ use Rattle.rules.specs.declared.group.Group.{Group}
 use Rattle.rules.specs.declared.step.Step.{Step}
 use Rattle.schedule.specs.Limits.{most_steps}
 use Rattle.text.specs.Number.{number_at}
-use Rattle.text.specs.Read.{Read}
+use Rattle.text.specs.Read.{Read, on_read}
 use Rattle.text.specs.declared.number.Broken.{Broken}
 use Rattle.schedule.specs.Lines.{Rows, lines_at}
 use Rattle.schedule.specs.Line.{next_number, line_at}
-use Rattle.schedule.specs.Schedule.{Schedule, values_from, warmup_from, read_file, part_at}
+use Rattle.schedule.specs.Header.{header_at}
+use Rattle.schedule.specs.Schedule.{Schedule, values_from, warmup_from, read_file, fault_at, part_at}
 use Rattle.schedule.specs.Run.{counts_of, ran_over, run_by}
 use Rattle.schedule.specs.declared.fault.BrokenLine.{BrokenLine}
 use Rattle.schedule.specs.declared.fault.Fault.{Fault}
+use Rattle.schedule.specs.declared.fault.Flaw.{Flaw}
 use Rattle.schedule.specs.declared.part.Part.{Part}
 use Rattle.schedule.specs.declared.file.Opening.{Opening}
 use Rattle.schedule.specs.declared.file.Places.{Places}
@@ -64,6 +66,10 @@ pub record KnownLine (s : List ℕ) (at : ℕ) : Type 0 where
   pub is : line_at s at ≡ Ok (step, next)
 
 -- ---- the parts of a file
+
+-- a section's first line, which is the file's line-th, or the fault of its form
+unfoldable pub heading_at : List ℕ → ℕ → List ℕ → ℕ → Result (ℕ × ℕ) Fault
+heading_at s at w line = on_read (header_at s at w) (λ p. Err (fault_at Flaw.Form line at p)) (λ k a. Ok (k, a))
 
 -- what the values of n lines are, as they were read into an array
 unfoldable pub values_read : ℕ → Result (List ℕ × ℕ) BrokenLine → Rows ℕ

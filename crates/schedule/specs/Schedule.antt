@@ -44,7 +44,7 @@ pub record Fits (h : Schedule) : Type 0 where
 
 -- ---- what is read from a file
 
--- a sound file's schedule, or the first fault: what is wrong, with the refusal's number, the line and the column
+-- a sound file's schedule, or the first fault: the flaw, the line and the column
 abbrev pub Reading : Type 0
 Reading = Result Schedule Fault
 

@@ -22,6 +22,7 @@ impl Flaw {
 }
 
 // What is wrong with a file, and the line and the column, both counted from 1; a file that is too long has line 0 and column 0.
+// The zeros stay, and no `Option`: document 01's report of it is `BAD 10 0 0`, and the definition `too_long` is so.
 #[derive(Clone, Copy, PartialEq, Eq, Debug)]
 pub struct Fault {
     pub flaw: Flaw,

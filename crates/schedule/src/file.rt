@@ -1,12 +1,12 @@
 // A schedule file, whole: VALUES, WARMUP and MEASURED in that order, and nothing after the last step.
-// A file is sound, or has one fault: its number, its line and its column.
+// A file is sound, or has one fault: its flaw, its line and its column.
 ghost use Rattle.std.specs.Prelude.{◌≡◌, ◌≤◌, length};
 ghost use Rattle.rules.specs.Limits.{greatest_size, among};
 ghost use Rattle.schedule.specs.Limits as limits;
 ghost use Rattle.schedule.specs.Private.{ValuesAre, StepsAre, FormIs};
 
 use crate::fault::{Fault, Flaw};
-use crate::header::{count_fault, heading};
+use crate::header::{count_fault, heading_at};
 use crate::lf::Lined;
 use crate::part::part_at;
 use crate::values::read_values;
@@ -22,7 +22,7 @@ impl File {
 
     pub const MOST_STEPS: u32 = 4096;
 
-    // The constants are the definitions' limits.
+    // The constants are the definitions' limits. It takes a function to say so: a constant has no clause of its own.
     pub(crate) fn longest() -> usize
         ensures { result ≡ limits.longest }
     {
@@ -70,19 +70,14 @@ pub(crate) fn is_size(n: u32) -> bool
 }
 
 // The VALUES section.
-pub(crate) fn read_opening(s: &[u8]) -> Result<Opening, Fault>
-    requires { length s.now ≤ limits.longest }
-    ensures { ValuesAre s.now result }
+pub(crate) fn read_opening<'a>(file: Lined<'a>) -> Result<Opening, Fault>
+    ensures { ValuesAre file.entry.bytes.now result }
 {
-    // No `map_err`: its closure would have to say again, in clauses of its own, what `Fault::at` asks and answers.
-    let (n, first) = match heading(s, 0, b"VALUES") {
-        Ok(header) => header,
-        Err(broken) => return Err(Fault::at(Flaw::Form, 1, 0, broken.place)),
-    };
+    let (n, first) = heading_at(file, 0, b"VALUES", 1)?;
     if !is_size(n) {
         return Err(count_fault(Flaw::Values, 1, 0, b"VALUES"));
     }
-    let (values, at) = match read_values(s, first, n as usize) {
+    let (values, at) = match read_values(file.bytes, first, n as usize) {
         Ok(read) => read,
         Err(broken) => return Err(broken.fault(2)),
     };
@@ -91,7 +86,7 @@ pub(crate) fn read_opening(s: &[u8]) -> Result<Opening, Fault>
 
 // The WARMUP and MEASURED sections from a place on, behind n value lines, to the end of the file.
 pub(crate) fn read_sections<'a>(file: Lined<'a>, n: u32, at: usize) -> Result<Places, Fault>
-    requires { (n ≤ greatest_size) × (at ≤ length file.bytes.now) × (length file.bytes.now ≤ limits.longest) }
+    requires { (n ≤ greatest_size) × (at ≤ length file.bytes.now) }
     ensures { StepsAre file.entry.bytes.now n at result }
 {
     let warmup = part_at(file, at, b"WARMUP", n + 2, File::MOST_STEPS)?;
@@ -110,20 +105,13 @@ pub(crate) fn read_sections<'a>(file: Lined<'a>, n: u32, at: usize) -> Result<Pl
     })
 }
 
-// A file's values and places, or its fault. Too long a file is refused before any line is read.
-pub(crate) fn form_of(s: &[u8]) -> Result<Form, Fault>
-    ensures { FormIs s.now result }
+// A file's values and places, or its fault.
+pub(crate) fn form_of<'a>(file: Lined<'a>) -> Result<Form, Fault>
+    ensures { FormIs file.entry.bytes.now result }
 {
-    if File::LONGEST < s.len() {
-        return Err(Fault {
-            flaw: Flaw::Size,
-            line: 0,
-            column: 0,
-        });
-    }
-    let opening = read_opening(s)?;
+    let opening = read_opening(file)?;
     let n = opening.n;
     let values = opening.values;
-    let places = read_sections(Lined::new(s), n, opening.at)?;
+    let places = read_sections(file, n, opening.at)?;
     Ok(Form { n, values, places })
 }

@@ -1,11 +1,13 @@
 // Section headers: a fixed word, a space, a count and LF.
 // Each function answers what the definition of a header says of the bytes, at any place of any bytes; where they break the form, the place.
-ghost use Rattle.std.specs.Prelude.{◌≡◌, ◌≤◌};
+ghost use Rattle.std.specs.Prelude.{◌≡◌, ◌≤◌, length};
 ghost use Rattle.schedule.specs.Header.{word_at, alone_at, header_at, count_at};
 ghost use Rattle.schedule.specs.Limits.{longest};
+ghost use Rattle.schedule.specs.Private.{heading_at};
 ghost use Rattle.schedule.specs.Schedule.{fault_at};
 
 use crate::fault::{Fault, Flaw};
+use crate::lf::Lined;
 use crate::line::spaced_at;
 use crate::number::closed;
 use text::look::Tested;
@@ -43,6 +45,23 @@ pub fn heading(s: &[u8], at: usize, word: &[u8]) -> Result<(u32, usize), Broken>
 {
     let n = word_at(s, at, word)?;
     alone_at(s, n)
+}
+
+// The same of a file in which it is the line-th line: the fault of its form where it breaks it.
+pub(crate) fn heading_at<'a>(
+    file: Lined<'a>,
+    at: usize,
+    word: &[u8],
+    line: u32,
+) -> Result<(u32, usize), Fault>
+    requires { at ≤ length file.bytes.now }
+    ensures { result ≡ heading_at file.entry.bytes.now at word.now line }
+{
+    // No `map_err`: its closure would have to say again which places `Fault::at` takes.
+    match heading(file.bytes, at, word) {
+        Ok(header) => Ok(header),
+        Err(broken) => Err(Fault::at(Flaw::Form, line, at, broken.place)),
+    }
 }
 
 // The fault of a count that the rules do not allow, in a header that begins at a place: it is at the count's first digit.

@@ -1,4 +1,5 @@
 // The step letters: which numbers follow each, whether its step may be cut, and the step that it makes of them.
+// Each method is a match over the eight: a table of functions would be these arms again.
 ghost use Rattle.std.specs.Prelude.{◌≡◌};
 ghost use Rattle.schedule.specs.Line.{letter_of, numbers_after, may_cut, step_of};
 
@@ -58,7 +59,7 @@ impl Letter {
         }
     }
 
-    // The step with its numbers.
+    // The step with its numbers. A letter with fewer passes over the rest: the definition `Line.step_of` takes three of each.
     #[tactic(auto, unfolding(crate::specs::Line::step_of))]
     pub(crate) fn step(self, a: u32, b: u32, c: u32, cut: bool) -> Step
         ensures { result ≡ step_of self a b c cut }

@@ -1,9 +1,13 @@
-// LF in the bytes of a file: where the last one stands.
+// The bytes of a file that is not too long, and LF in them: where the last one stands.
 // Every line ends with LF, so that where one is ahead, the check of the step lines tests no byte for the file's end.
-ghost use Rattle.std.specs.Prelude.{◌≡◌};
+ghost use Rattle.std.specs.Prelude.{◌≡◌, ◌≤◌, length, MatchResult};
 ghost use Rattle.schedule.specs.Ahead.{Ahead, ahead_next};
+ghost use Rattle.schedule.specs.Limits.{longest};
 ghost use Rattle.schedule.specs.Private.{LastLf};
+ghost use Rattle.schedule.specs.Schedule.{read_file};
 
+use crate::fault::{Fault, Flaw};
+use crate::file::File;
 use text::look::Look;
 
 // How a byte is looked at where an LF stands there or ahead: with no test for the file's end.
@@ -20,23 +24,31 @@ impl Look for Untested {
     }
 }
 
-// The bytes of a file, and the place after its last LF; 0 where it has none.
+// The bytes of a file that is not too long, and the place after its last LF; 0 where it has none.
 #[derive(Clone, Copy)]
 pub(crate) struct Lined<'a> {
     pub bytes: &'a [u8],
     pub end: usize,
+    ghost short: { length bytes.now ≤ longest },
     ghost last: { LastLf bytes.now end },
 }
 
 impl<'a> Lined<'a> {
-    pub(crate) fn new(bytes: &'a [u8]) -> Lined<'a>
-        ensures { result.bytes ≡ bytes.entry }
+    // Too long a file is refused before any line is read.
+    pub(crate) fn new(bytes: &'a [u8]) -> Result<Lined<'a>, Fault>
+        ensures { MatchResult result (λ file. file.bytes ≡ bytes.entry) (λ fault. read_file bytes.entry.now ≡ Err fault) }
     {
-        for k in (0..bytes.len()).rev() {
-            if bytes[k] == 10 {
-                return Lined { bytes, end: k + 1 };
-            }
+        if File::LONGEST < bytes.len() {
+            return Err(Fault {
+                flaw: Flaw::Size,
+                line: 0,
+                column: 0,
+            });
         }
-        Lined { bytes, end: 0 }
+        let end = match bytes.iter().rposition(|byte| *byte == b'\n') {
+            Some(k) => k + 1,
+            None => 0,
+        };
+        Ok(Lined { bytes, end })
     }
 }

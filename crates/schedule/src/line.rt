@@ -17,7 +17,7 @@ pub(crate) fn spaced_at<L: Look>(s: &[u8], at: usize) -> Result<(u32, usize), Br
     requires { L.may s.now at }
     ensures { result ≡ spaced_at s.now at }
 {
-    if L::byte(s, at) == 32 {
+    if L::byte(s, at) == b' ' {
         decimal_by::<L>(s, at + 1)
     } else {
         Err(Broken { place: at })
@@ -25,6 +25,7 @@ pub(crate) fn spaced_at<L: Look>(s: &[u8], at: usize) -> Result<(u32, usize), Br
 }
 
 // The same where one more number is wanted, and otherwise nothing read.
+// The flag and the 0 stay, and no `Option`: the definition `Line.next_number` says both, of every input.
 pub(crate) fn next_number<L: Look>(
     s: &[u8],
     at: usize,
@@ -46,19 +47,19 @@ pub(crate) fn end_at<L: Look>(s: &[u8], at: usize, may: bool) -> Result<(bool, u
     ensures { result ≡ end_at s.now at may }
 {
     let first = L::byte(s, at);
-    if first == 10 {
+    if first == b'\n' {
         return Ok((false, at + 1));
     }
     if !may {
         return Err(Broken { place: at });
     }
-    if first != 32 {
+    if first != b' ' {
         return Err(Broken { place: at });
     }
-    if L::byte(s, at + 1) != 88 {
+    if L::byte(s, at + 1) != b'X' {
         return Err(Broken { place: at + 1 });
     }
-    if L::byte(s, at + 2) != 10 {
+    if L::byte(s, at + 2) != b'\n' {
         return Err(Broken { place: at + 2 });
     }
     Ok((true, at + 3))
@@ -96,7 +97,7 @@ pub(crate) fn line_by<L: Look>(s: &[u8], at: usize) -> Result<(Step, usize), Bro
     ended_at::<L>(s, l, letter, a, b, c)
 }
 
-// The same at any place of any bytes.
+// The same at any place of any bytes: a public function, which stays as it was.
 pub fn step_line(s: &[u8], at: usize) -> Result<(Step, usize), Broken>
     ensures { result ≡ line_at s.now at }
 {
@@ -104,24 +105,24 @@ pub fn step_line(s: &[u8], at: usize) -> Result<(Step, usize), Broken>
 }
 
 // ---- a line that is known to keep the form: nothing is tested again
-// The functions above would read it too, and test each byte of it a second time (docs/SPEED.md).
+// It is read by functions of its own: on `long_five` 1,366,572 instructions, with `line_by` of `Untested` in their place 1,908,053, of `Tested` 1,793,712 (docs/SPEED.md).
 
 // The number at a place, and the place after it.
 pub(crate) fn known_number(s: &[u8], at: usize) -> (u32, usize)
     requires { KnownNumber s.now at }
     ensures { number_at s.now at ≡ Ok result }
 {
-    let mut value: u32 = (s[at] - 48) as u32;
+    let mut value: u32 = (s[at] - b'0') as u32;
     let mut next = at + 1;
     // No `for` over the places: it would end with the file too, where this reading never comes, and test for that at each byte.
     while is_digit(s[next]) {
-        value = value * 10 + (s[next] - 48) as u32;
+        value = value * 10 + (s[next] - b'0') as u32;
         next += 1;
     }
     (value, next)
 }
 
-// The number behind a space where one more is wanted, and otherwise nothing read.
+// The number behind a space where one more is wanted, and otherwise nothing read: the flag and the 0 are `next_number`'s.
 pub(crate) fn known_next(s: &[u8], at: usize, wanted: bool) -> (u32, usize)
     requires { KnownNext s.now at wanted }
     ensures { next_number s.now at wanted ≡ Ok result }
@@ -143,7 +144,7 @@ pub(crate) fn known_line(s: &[u8], at: usize) -> (Step, usize)
     let (a, n) = known_next(s, at + 1, true);
     let (b, m) = known_next(s, n, 1 < count);
     let (c, end) = known_next(s, m, 2 < count);
-    let cut = s[end] == 32;
+    let cut = s[end] == b' ';
     let step = letter.step(a, b, c, cut);
     let next = if cut { end + 3 } else { end + 1 };
     (step, next)

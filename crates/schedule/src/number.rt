@@ -9,7 +9,7 @@ pub(crate) fn closed(s: &[u8], number: Result<(u32, usize), Broken>) -> Result<(
     ensures { result ≡ lines.closed s.now number }
 {
     let (value, next) = number?;
-    if byte_at(s, next) == 10 {
+    if byte_at(s, next) == b'\n' {
         return Ok((value, next + 1));
     }
     Err(Broken { place: next })

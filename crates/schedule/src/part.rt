@@ -1,11 +1,10 @@
 // A part of the file with steps: a header, its count held to a limit, and as many step lines.
 // What is answered is where the steps stand, or the part's first fault.
 ghost use Rattle.std.specs.Prelude.{◌+◌, ◌≤◌, ◌<◌, ◌^◌, length};
-ghost use Rattle.schedule.specs.Limits.{longest};
 ghost use Rattle.schedule.specs.Private.{PartIs};
 
 use crate::fault::{Fault, Flaw};
-use crate::header::{count_fault, heading};
+use crate::header::{count_fault, heading_at};
 use crate::lf::Lined;
 use crate::section::check_steps;
 
@@ -25,14 +24,10 @@ pub(crate) fn part_at<'a>(
     line: u32,
     left: u32,
 ) -> Result<Part, Fault>
-    requires { (line + left + 1 < 2 ^ 32) × (at ≤ length file.bytes.now) × (length file.bytes.now ≤ longest) }
+    requires { (line + left + 1 < 2 ^ 32) × (at ≤ length file.bytes.now) }
     ensures { PartIs file.entry.bytes.now at word.now line left result }
 {
-    // No `map_err`: its closure would have to say again, in clauses of its own, what `Fault::at` asks and answers.
-    let (count, start) = match heading(file.bytes, at, word) {
-        Ok(header) => header,
-        Err(broken) => return Err(Fault::at(Flaw::Form, line, at, broken.place)),
-    };
+    let (count, start) = heading_at(file, at, word, line)?;
     if left < count {
         return Err(count_fault(Flaw::Size, line, at, word));
     }

@@ -19,19 +19,18 @@ pub struct Ran {
 }
 
 // Takes the count steps whose lines stand from a place on, and answers their counts.
-pub(crate) fn run_steps(
-    s: &[u8],
+pub(crate) fn run_steps<'a>(
+    file: Lined<'a>,
     at: usize,
     count: u32,
     group: &mut Group,
     store: &mut [u64],
     depths: &mut [u16],
 ) -> Counts
-    requires { RunReady s.now at count group.old store.old depths.old }
-    ensures { RanTo s.now at count group.old store.old depths.old group.new store.new depths.new result }
+    requires { RunReady file.bytes.now at count group.old store.old depths.old }
+    ensures { RanTo file.entry.bytes.now at count group.old store.old depths.old group.new store.new depths.new result }
 {
     let mut counts = Counts::none();
-    let file = Lined::new(s);
     let mut reader = Reader { file, at };
     for _ in 0..count {
         let step = reader.step();
@@ -42,19 +41,26 @@ pub(crate) fn run_steps(
 }
 
 // Takes the steps of both sections from a group on, which is sound over stores that are long.
-pub(crate) fn run_both(
-    s: &[u8],
+pub(crate) fn run_both<'a>(
+    file: Lined<'a>,
     places: Places,
     group: Group,
     store: &mut [u64],
     depths: &mut [u16],
 ) -> Ran
-    requires { BothReady s.now places group store.old depths.old }
-    ensures { BothRan s.now places group store.old depths.old result store.new depths.new }
+    requires { BothReady file.bytes.now places group store.old depths.old }
+    ensures { BothRan file.entry.bytes.now places group store.old depths.old result store.new depths.new }
 {
     let mut last = group;
-    let warmup = run_steps(s, places.start, places.warmup, &mut last, store, depths);
-    let measured = run_steps(s, places.middle, places.measured, &mut last, store, depths);
+    let warmup = run_steps(file, places.start, places.warmup, &mut last, store, depths);
+    let measured = run_steps(
+        file,
+        places.middle,
+        places.measured,
+        &mut last,
+        store,
+        depths,
+    );
     Ran {
         warmup,
         measured,
@@ -63,16 +69,16 @@ pub(crate) fn run_both(
 }
 
 // Runs a sound file: a start with its values, then its steps. A start of 1 to 16 values is refused over a store that is too short alone, and then so is every step.
-pub(crate) fn run_sound(
-    s: &[u8],
+pub(crate) fn run_sound<'a>(
+    file: Lined<'a>,
     n: u32,
     values: [u32; Group::GREATEST],
     places: Places,
     store: &mut [u64],
     depths: &mut [u16],
 ) -> Ran
-    requires { FormGood s.now n values places }
-    ensures { SoundRan s.now store.old depths.old result store.new depths.new }
+    requires { FormGood file.bytes.now n values places }
+    ensures { SoundRan file.entry.bytes.now store.old depths.old result store.new depths.new }
 {
     let begun = Group::start(&values[..n as usize], store, depths);
     if begun.answer.is_err() {
@@ -82,15 +88,16 @@ pub(crate) fn run_sound(
             group: begun.group,
         };
     }
-    run_both(s, places, begun.group, store, depths)
+    run_both(file, places, begun.group, store, depths)
 }
 
 // Runs a schedule file over a lent store and the lent depths of its messages. A faulty file runs no step, and leaves both as they were.
 pub fn run(file: &[u8], store: &mut [u64], depths: &mut [u16]) -> Result<Ran, Fault>
     ensures { runs.ran_over result store.new depths.new ≡ runs.run_of file.now store.old depths.old }
 {
-    let form = form_of(file)?;
+    let lined = Lined::new(file)?;
+    let form = form_of(lined)?;
     let values = form.values;
     let places = form.places;
-    Ok(run_sound(file, form.n, values, places, store, depths))
+    Ok(run_sound(lined, form.n, values, places, store, depths))
 }

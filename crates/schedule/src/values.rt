@@ -30,6 +30,7 @@ pub(crate) fn read_values(
 {
     let mut values = [0u32; Group::GREATEST];
     let mut place = at;
+    // The index stays: it is the line's number too, and `values[..n].iter_mut().enumerate()` would name it beside the value's place.
     for index in 0..n {
         match value_at(s, place) {
             Ok((value, next)) => {

@@ -1,6 +1,6 @@
 // How a byte of a text is looked at: with a test for the end of the text, or without one where no test is needed.
 ghost use Rattle.std.specs.Prelude.{◌≡◌, ◌≢◌, ℕ, ◌+◌, List, get_or};
-ghost use Rattle.text.specs.Look.{Anywhere, anywhere};
+ghost use Rattle.text.specs.Look.{Anywhere};
 
 pub trait Look {
     // Where a byte may be looked at.
@@ -22,7 +22,7 @@ pub struct Tested {}
 impl Look for Tested {
     ghost may = { Anywhere };
 
-    ghost next = { anywhere };
+    ghost next = { λ _ _ _ _. tt };
 
     fn byte(s: &[u8], at: usize) -> u8 {
         if at >= s.len() {

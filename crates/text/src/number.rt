@@ -5,8 +5,14 @@ ghost use Rattle.text.specs.Number.{is_digit, most, number_at, scan};
 
 use crate::look::{Look, Tested};
 
-// The greatest number that a text can hold.
-pub const MOST: u64 = 4294967295;
+// The limit of a decimal.
+#[derive(Clone, Copy)]
+pub struct Number {}
+
+impl Number {
+    // The greatest number that a text can hold.
+    pub const MOST: u64 = 4294967295;
+}
 
 // The place of the first byte that breaks the form of what is read.
 #[derive(Clone, Copy, PartialEq, Eq, Debug)]
@@ -22,7 +28,7 @@ pub fn is_digit(b: u8) -> bool
     b.is_ascii_digit()
 }
 
-// The byte at a place; 0 past the end.
+// The byte at a place; 0 past the end: a public function, which stays as it was.
 pub fn byte_at(s: &[u8], at: usize) -> u8
     ensures { result ≡ get_or s.now at 0 }
 {
@@ -42,8 +48,8 @@ pub(crate) fn digits_from<L: Look>(s: &[u8], at: usize, v: u64) -> Result<(u32, 
         if !is_digit(byte) {
             return Ok((total as u32, place));
         }
-        total = total * 10 + (byte - 48) as u64;
-        if total > MOST {
+        total = total * 10 + (byte - b'0') as u64;
+        if total > Number::MOST {
             return Err(Broken { place });
         }
         place += 1;
@@ -60,15 +66,15 @@ pub fn decimal_by<L: Look>(s: &[u8], at: usize) -> Result<(u32, usize), Broken>
         return Err(Broken { place: at });
     }
     if !is_digit(L::byte(s, at + 1)) {
-        return Ok(((first - 48) as u32, at + 1));
+        return Ok(((first - b'0') as u32, at + 1));
     }
-    if first == 48 {
+    if first == b'0' {
         return Err(Broken { place: at + 1 });
     }
-    digits_from::<L>(s, at + 1, (first - 48) as u64)
+    digits_from::<L>(s, at + 1, (first - b'0') as u64)
 }
 
-// The same at any place.
+// The same at any place: a public function, which stays as it was.
 pub fn decimal(s: &[u8], at: usize) -> Result<(u32, usize), Broken>
     ensures { result ≡ number_at s.now at }
 {

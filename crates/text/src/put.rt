@@ -28,6 +28,7 @@ pub fn put_bytes(out: &mut [u8], at: usize, text: &[u8]) -> usize
 pub fn put_number(out: &mut [u8], at: usize, n: u32) -> usize
     ensures { Puts out.old at (spelled n) out.new result }
 {
+    // The digits pass through an array of the stack: nothing is allocated, as it would be by `to_string`.
     let mut text = [0u8; 20];
     let k = io::decimal(n as u64, &mut text);
     put_bytes(out, at, &text[..k])

@@ -22,8 +22,8 @@ use Rattle.schedule.specs.Lines.{Rows, broken_at, before, lines_at}
 use Rattle.schedule.specs.Line.{closed, line_of, line_at}
 use Rattle.schedule.specs.Header.{word_at, alone_at, header_at, count_at, values_word, warmup_word, measured_word}
 use Rattle.schedule.specs.Values.{value_at}
-use Rattle.schedule.specs.Schedule.{section_of, fault_at, line_fault, too_long, part_at, measured_from, warmup_from, values_from, read_file}
-use Rattle.schedule.specs.Private.{read_to, rows_end, values_read, PartGood, PartIs, OpeningGood, ValuesAre, StepsAre, FormIs}
+use Rattle.schedule.specs.Schedule.{section_of, fault_at, line_fault, part_at, measured_from, warmup_from, values_from, read_file}
+use Rattle.schedule.specs.Private.{read_to, rows_end, values_read, heading_at, PartGood, PartIs, OpeningGood, ValuesAre, StepsAre, FormIs}
 use Rattle.text.specs.declared.number.Broken.{Broken}
 use Rattle.schedule.specs.declared.fault.BrokenLine.{BrokenLine}
 use Rattle.schedule.specs.declared.part.Part.{Part}
@@ -31,7 +31,7 @@ use Rattle.schedule.specs.declared.fault.Fault.{Fault}
 use Rattle.schedule.specs.declared.file.Opening.{Opening}
 use Rattle.schedule.specs.declared.file.Places.{Places}
 use Rattle.schedule.proofs.Reading.InARow.{rows, one_less, end-broken, end_more, end_none, found, faulted, lines_long, broken-below}
-use Rattle.schedule.proofs.RoundTrip.File.{part-got, part-read, read-got, read-long, values-got, warmup-got, measured-got, opened}
+use Rattle.schedule.proofs.RoundTrip.File.{part-got, part-read, read-got, values-got, warmup-got, measured-got, opened}
 use Rattle.text.proofs.StandsLaws.{stands-high}
 use Rattle.schedule.proofs.Reading.Bounds.{header-within, header-high, count-high, steps-within, values-within}
 
@@ -45,6 +45,49 @@ module _ (s : List ℕ) (at : ℕ) (w : List ℕ) {r : Result ℕ Broken} (e : r
   pub header-past : {n : ℕ} {k : Read ℕ} → r ≡ Ok n → k ≡ alone_at s n → k ≡ header_at s at w
   unfolding header_at
   header-past {n} {k} g a = a ∙ rw (sym e, g)
+
+abbrev head_got : ℕ → ℕ → Result (ℕ × ℕ) Fault
+head_got x m = Ok (x, m)
+
+abbrev fault_in : {A : Type 0} → Fault → Result A Fault → Fault
+fault_in z (Err f) = f
+fault_in z (Ok x) = z
+
+abbrev is_fault : {A : Type 0} → Result A Fault → ℕ
+is_fault (Err f) = 0
+is_fault (Ok x) = 1
+
+abbrev as_read : Result (ℕ × ℕ) Fault → Read ℕ
+as_read (Err f) = bad 0
+as_read (Ok x) = Ok x
+
+-- as a line of the file it is read, or has a fault
+module _ (s : List ℕ) (at : ℕ) (w : List ℕ) (line : ℕ) where
+  pub headed : {k a : ℕ} → heading_at s at w line ≡ Ok (k, a) → header_at s at w ≡ Ok (k, a)
+  unfolding heading_at
+  headed {k} {a} = go (header_at s at w)
+    where
+      go : (r : Read ℕ) → on_read r (λ p. Err (fault_at Flaw.Form line at p)) head_got ≡ head_got k a → r ≡ got k a
+      go (Err b) e = let z : ◌≡◌ {A = ℕ} 0 1 = ap is_fault e in absurd (omega arith)
+      go (Ok (x, m)) e = ap as_read e
+
+  pub unheaded : {B : Type 0} {f : Fault} → heading_at s at w line ≡ Err f → (g : ℕ → ℕ → Result B Fault)
+      → on_read (header_at s at w) (λ p. Err (fault_at Flaw.Form line at p)) g ≡ Err f
+  unfolding heading_at
+  unheaded {B} {f} e g = go (header_at s at w) e
+    where
+      go : (r : Read ℕ) → on_read r (λ p. Err (fault_at Flaw.Form line at p)) head_got ≡ Err f
+          → on_read r (λ p. Err (fault_at Flaw.Form line at p)) g ≡ Err f
+      go (Err b) q = ap Err (ap (fault_in f) q)
+      go (Ok (x, m)) q = let z : ◌≡◌ {A = ℕ} 1 0 = ap is_fault q in absurd (omega arith)
+
+  pub heading-read : {r : Read ℕ} {x m : ℕ} → r ≡ header_at s at w → r ≡ Ok (x, m) → Ok (x, m) ≡ heading_at s at w line
+  unfolding heading_at
+  heading-read e g = rw (sym e, g)
+
+  pub heading-broken : {r : Read ℕ} {b : Broken} {f : Fault} → r ≡ header_at s at w → r ≡ Err b → f ≡ fault_at Flaw.Form line at b.place → Err f ≡ heading_at s at w line
+  unfolding heading_at
+  heading-broken e g is = rw (sym e, g, is)
 
 -- ---- a value line
 
@@ -151,20 +194,23 @@ module _ {s : List ℕ} {at count i place : ℕ} (h : Checking s at count i plac
 
 -- ---- a section of steps
 
-module _ (s : List ℕ) (at : ℕ) (w : List ℕ) (line left : ℕ) {r : Read ℕ} (e : r ≡ header_at s at w) where
-  pub part_none : {b : Broken} {f : Fault} → r ≡ Err b → f ≡ fault_at Flaw.Form line at b.place → PartIs s at w line left (Err f)
+module _ (s : List ℕ) (at : ℕ) (w : List ℕ) (line left : ℕ) {r : Result (ℕ × ℕ) Fault} (e : r ≡ heading_at s at w line) where
+  pub part_none : {f : Fault} → r ≡ Err f → PartIs s at w line left (Err f)
   unfolding PartIs part_at
-  part_none g is = rw (sym e, g, is)
+  part_none g = unheaded s at w line (sym e ∙ g) _
 
   module _ {k a : ℕ} (g : r ≡ Ok (k, a)) where
+    read-head : header_at s at w ≡ Ok (k, a)
+    read-head = headed s at w line (sym e ∙ g)
+
     pub part-many : {f : Fault} → left < k → f ≡ fault_at Flaw.Size line at (count_at at w) → PartIs s at w line left (Err f)
     unfolding PartIs part_at
-    part-many h is = rw (sym e, g, lt-leb k left h, is)
+    part-many h is = rw (read-head, lt-leb k left h, is)
 
     module _ {c : Result ℕ BrokenLine} (h : k ≤ left) (q : c ≡ rows_end (lines_at (line_at s) k 0 a)) where
       pub part-broken : {b : BrokenLine} {f : Fault} → c ≡ Err b → f ≡ line_fault (line + 1) b → PartIs s at w line left (Err f)
       unfolding PartIs part_at
-      part-broken {b} x is = rw (sym e, g, le-leb k left h, faulted (lines_at (line_at s) k 0 a) b (sym q ∙ x), is)
+      part-broken {b} x is = rw (read-head, le-leb k left h, faulted (lines_at (line_at s) k 0 a) b (sym q ∙ x), is)
 
       pub part-good : {m : ℕ} → c ≡ Ok m → PartIs s at w line left (Ok (record { count = k; start = a; end = m }))
       unfolding PartIs
@@ -174,22 +220,22 @@ module _ (s : List ℕ) (at : ℕ) (w : List ℕ) (line left : ℕ) {r : Read �
             steps = d.things;
             are = record { are = d.is; long = lines_long (line_at s) k 0 a d.things m d.is };
             few = h;
-            is = part-got s at w line left d.things k a m (sym e ∙ g) h d.is;
+            is = part-got s at w line left d.things k a m read-head h d.is;
           }
 
 -- the fault of a section is within its line
-module _ (s : List ℕ) (at : ℕ) (w : List ℕ) {r : Read ℕ} (e : r ≡ header_at s at w) (high : at ≤ length s) (short : length s ≤ longest) where
-  pub part-place : {b : Broken} → r ≡ Err b → (at ≤ b.place) × (b.place ≤ longest)
-  part-place g = let h = header-within s at w high (sym e ∙ g) in (h.0, omega (arith, h.1))
+module _ (s : List ℕ) (at : ℕ) (w : List ℕ) (high : at ≤ length s) (short : length s ≤ longest) where
+  pub part-place : {r : Read ℕ} {b : Broken} → r ≡ header_at s at w → r ≡ Err b → (at ≤ b.place) × (b.place ≤ longest)
+  part-place e g = let h = header-within s at w high (sym e ∙ g) in (h.0, omega (arith, h.1))
 
-  module _ {k a : ℕ} (g : r ≡ Ok (k, a)) where
+  module _ (line : ℕ) {r : Result (ℕ × ℕ) Fault} (e : r ≡ heading_at s at w line) {k a : ℕ} (g : r ≡ Ok (k, a)) where
     pub part_count : count_at at w ≤ longest
-    part_count = omega (arith, count-high s at w high (sym e ∙ g))
+    part_count = omega (arith, count-high s at w high (headed s at w line (sym e ∙ g)))
 
     pub part-stop : {c : Result ℕ BrokenLine} {b : BrokenLine} → c ≡ rows_end (lines_at (line_at s) k 0 a) → c ≡ Err b → (b.index < k) × (b.from ≤ b.place) × (b.place ≤ longest)
     part-stop {c} {b} q x =
         let f = faulted (lines_at (line_at s) k 0 a) b (sym q ∙ x) in
-        let h = steps-within s k 0 a b.index b.from b.place f (header-high s at w high (sym e ∙ g)) in
+        let h = steps-within s k 0 a b.index b.from b.place f (header-high s at w high (headed s at w line (sym e ∙ g))) in
         (omega (arith, broken-below (line_at s) k 0 a b.index b.from b.place f), omega (arith, h.0), omega (arith, h.1))
 
 -- ---- the two sections of steps
@@ -285,16 +331,19 @@ module _ (s : List ℕ) (n at : ℕ) {r : Result Part Fault} (e : PartIs s at wa
 pub size_few : (n : ℕ) {b : Bool} → b ≡ among greatest_size n → b ≡ true → n ≤ greatest_size
 size_few n e f = (among-true greatest_size n (sym e ∙ f)).1
 
-module _ (s : List ℕ) {r : Read ℕ} (e : r ≡ header_at s 0 values_word) where
-  pub opening-none : {b : Broken} {f : Fault} → r ≡ Err b → f ≡ fault_at Flaw.Form 1 0 b.place → ValuesAre s (Err f)
+module _ (s : List ℕ) {r : Result (ℕ × ℕ) Fault} (e : r ≡ heading_at s 0 values_word 1) where
+  pub opening-none : {f : Fault} → r ≡ Err f → ValuesAre s (Err f)
   unfolding ValuesAre values_from
-  opening-none g is = rw (sym e, g, is)
+  opening-none g = unheaded s 0 values_word 1 (sym e ∙ g) _
 
   module _ {n a : ℕ} (g : r ≡ Ok (n, a)) where
+    first-head : header_at s 0 values_word ≡ Ok (n, a)
+    first-head = headed s 0 values_word 1 (sym e ∙ g)
+
     -- not 1 to 16 values
     pub opening-size : {b : Bool} {f : Fault} → b ≡ among greatest_size n → b ≡ false → f ≡ fault_at Flaw.Values 1 0 (count_at 0 values_word) → ValuesAre s (Err f)
     unfolding ValuesAre values_from
-    opening-size h z is = rw (sym e, g, sym h ∙ z, is)
+    opening-size h z is = rw (first-head, sym h ∙ z, is)
 
     module _ {b : Bool} (sized : b ≡ among greatest_size n) (fits : b ≡ true) where
       size : among greatest_size n ≡ true
@@ -308,31 +357,27 @@ module _ (s : List ℕ) {r : Read ℕ} (e : r ≡ header_at s 0 values_word) whe
         -- a faulty line
         pub opening-stop : {c : BrokenLine} → length s ≤ longest → v ≡ Err c → (c.index < n) × (c.from ≤ c.place) × (c.place ≤ longest)
         opening-stop {c} short q =
-            let w = values-within s n 0 a c.index c.from c.place (broken-read q) (header-high s 0 values_word (omega arith) (sym e ∙ g)) in
+            let w = values-within s n 0 a c.index c.from c.place (broken-read q) (header-high s 0 values_word (omega arith) first-head) in
             (omega (arith, broken-below (value_at s) n 0 a c.index c.from c.place (broken-read q)), omega (arith, w.0), omega (arith, w.1))
 
         pub opening-broken : {c : BrokenLine} {f : Fault} → v ≡ Err c → f ≡ line_fault 2 c → ValuesAre s (Err f)
         unfolding ValuesAre values_from
-        opening-broken q is = rw (sym e, g, size, broken-read q, is)
+        opening-broken q is = rw (first-head, size, broken-read q, is)
 
         pub opening-good : {vs : List ℕ} {m : ℕ} → v ≡ Ok (vs, m) → ValuesAre s (Ok (record { n = n; values = vs; at = m }))
         unfolding ValuesAre values_read
         opening-good {vs} {m} q =
             let all : lines_at (value_at s) n 0 a ≡ rows (take n vs) m = are ∙ rw q in
             let range = among-true greatest_size n size in
-            let up = opened s n a (take n vs) m (sym e ∙ g) range all in
+            let up = opened s n a (take n vs) m first-head range all in
             record {
               low = range.0;
               high = range.1;
               within = stands-high s 0 m _ up.stands (omega arith);
-              is = values-got s (take n vs) n a m (sym e ∙ g) size all;
+              is = values-got s (take n vs) n a m first-head size all;
             }
 
 -- ---- the whole file
-
-pub form-long : (s : List ℕ) → longest < length s → FormIs s (Err too_long)
-unfolding FormIs
-form-long s h = read-long s h
 
 module _ (s : List ℕ) (short : length s ≤ longest) {r : Result Opening Fault} (e : ValuesAre s r) where
   pub form-opening : {f : Fault} → r ≡ Err f → FormIs s (Err f)

@@ -21,7 +21,7 @@ use Rattle.rules.specs.Run.{State, state_of, start_state, next, after, answers}
 use Rattle.rules.specs.declared.group.Group.{Group}
 use Rattle.rules.specs.declared.step.Step.{Step}
 use Rattle.rules.proofs.Cited.{or_left, or_right, among_in, deep-keeps, deep-sound-step, deep-sized-step, deep-step-length, depths-step-length, Starting, deep-starting}
-use Rattle.schedule.specs.Schedule.{Schedule, Reading, Fits}
+use Rattle.schedule.specs.Schedule.{Schedule, Reading, Fits, read_file}
 use Rattle.schedule.specs.Run.{counts_of, has_run, run_by, run_of, begins, between}
 use Rattle.schedule.specs.Run.{ran_over}
 use Rattle.schedule.specs.Private.{counted, counted_all, refused_all, FormGood, FormIs, RunReady, state_with, RanSteps, RanTo, BothReady, RanBoth, BothRan, SoundRan}
@@ -258,6 +258,10 @@ module _ (s : List ℕ) (n : ℕ) (vs : List ℕ) (p : Places) (h : FormGood s n
       }))
 
 -- ---- any file
+
+pub run-long : (s : List ℕ) {f : Fault} → read_file s ≡ Err f → (l d : List ℕ) → ran_over (Err f) l d ≡ run_of s l d
+unfolding run_of run_by
+run-long s e l d = ap (λ (t : Reading). run_by t l d) (sym e)
 
 module _ (s : List ℕ) {r : Result Form Fault} (h : FormIs s r) where
   pub run-bad : {f : Fault} → r ≡ Err f → (l d : List ℕ) → ran_over (Err f) l d ≡ run_of s l d

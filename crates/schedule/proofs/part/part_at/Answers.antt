@@ -1,27 +1,25 @@
 -- Each return is one case of the definition: no header, too many steps, a faulty line, or all lines. Assumes nothing.
 use native.Mathlib.Omega.{arith}
-use Rattle.schedule.proofs.Reading.Whole.{part_none, part-many, part-broken, part-good, part-place, part_count, part-stop}
+use Rattle.std.proofs.lemmas.Result.{err_from_is_err_and}
+use Rattle.schedule.proofs.Reading.Whole.{part_none, part-many, part-broken, part-good, part_count, part-stop}
 use Rattle.schedule.proofs.part.part_at.Goals as goal
 
-pub at-requires : goal.at-requires
-at-requires c = part-place _ _ _ c.heading.ensures c.requires.1 c.requires.2 c.in-Err.is
-
-pub returns-in-Err : goal.returns-in-Err
-returns-in-Err c = part_none _ _ _ _ _ c.heading.ensures c.in-Err.is c.at.ensures
+pub returns-in_err-count : goal.returns-in_err-count
+returns-in_err-count c = let p = err_from_is_err_and c.from_residual.result c.from_residual.ensures.1 in rw (p.1, p.2) (part_none _ _ _ _ _ c.heading_at.ensures c.in_err-count.was)
 
 pub count_fault-requires : goal.count_fault-requires
-count_fault-requires c = part_count _ _ _ c.heading.ensures c.requires.1 c.requires.2 c.in-Ok.is
+count_fault-requires c = part_count _ _ _ c.requires.1 c.args.file.short _ c.heading_at.ensures c.in_ok-count.was
 
 pub returns-then-left-count : goal.returns-then-left-count
-returns-then-left-count c = part-many _ _ _ _ _ c.heading.ensures c.in-Ok.is c.if-left-count.true c.count_fault.ensures
+returns-then-left-count c = part-many _ _ _ _ _ c.heading_at.ensures c.in_ok-count.was c.if-left-count.true c.count_fault.ensures
 
 pub fault-requires : goal.fault-requires
 fault-requires c =
-    let h = part-stop _ _ _ c.heading.ensures c.requires.1 c.requires.2 c.in-Ok.is c.check_steps.ensures c.in-Err-check_steps.is in
+    let h = part-stop _ _ _ c.requires.1 c.args.file.short _ c.heading_at.ensures c.in_ok-count.was c.check_steps.ensures c.in-Err.is in
     (omega (arith, c.requires.0, h.0, c.if-left-count.false), h.1, h.2)
 
-pub returns-in-Ok-check_steps : goal.returns-in-Ok-check_steps
-returns-in-Ok-check_steps c = part-good _ _ _ _ _ c.heading.ensures c.in-Ok.is c.if-left-count.false c.check_steps.ensures c.in-Ok-check_steps.is
+pub returns-in-Ok : goal.returns-in-Ok
+returns-in-Ok c = part-good _ _ _ _ _ c.heading_at.ensures c.in_ok-count.was c.if-left-count.false c.check_steps.ensures c.in-Ok.is
 
-pub returns-in-Err-check_steps : goal.returns-in-Err-check_steps
-returns-in-Err-check_steps c = part-broken _ _ _ _ _ c.heading.ensures c.in-Ok.is c.if-left-count.false c.check_steps.ensures c.in-Err-check_steps.is c.fault.ensures
+pub returns-in-Err : goal.returns-in-Err
+returns-in-Err c = part-broken _ _ _ _ _ c.heading_at.ensures c.in_ok-count.was c.if-left-count.false c.check_steps.ensures c.in-Err.is c.fault.ensures

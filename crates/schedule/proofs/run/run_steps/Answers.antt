@@ -1,13 +1,10 @@
 use Rattle.schedule.specs.declared.lf.Lined.{Lined}
-use Rattle.std.proofs.Common.{Bor}
-use Prim.Native.Nat.{ℕ}
-use mathlib.Core.List.{List}
-use mathlib.Core.Path.{sym, ap, ◌∙◌}
+use mathlib.Core.Path.{refl, sym, ap, ◌∙◌}
 use Rattle.schedule.proofs.Running.Steps.{counts_same, going-none, going-known, going_on, going_done}
 use Rattle.schedule.proofs.run.run_steps.Goals as goal
 
 pub loop-init : goal.loop-init
-loop-init c = (ap (λ (f : Bor (List ℕ)). f.now) c.new-file.ensures, counts_same (sym c.none-counts.ensures) (going-none _ _ _ _ _ _ c.requires))
+loop-init c = (refl, counts_same (sym c.none-counts.ensures) (going-none _ _ _ _ _ _ c.requires))
 
 pub step-step-requires : goal.step-step-requires
 step-step-requires c = rw c.loop.invariant.0 (going-known _ _ _ _ _ _ _ _ c.loop.invariant.1 c.loop-test.true)

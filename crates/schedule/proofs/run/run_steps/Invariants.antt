@@ -6,5 +6,5 @@ use Rattle.schedule.proofs.run.run_steps.Given as goal
 
 abbrev pub invariant-loop : goal.invariant-loop
 invariant-loop l =
-    (l.reader.file.bytes.now ≡ l.s)
-    × Going l.s l.at l.count (state_with l.initial.group l.initial.store l.initial.depths) (state_with l.group l.store l.depths) l.counts l.counter l.reader.at
+    (l.reader.file.bytes.now ≡ l.file.bytes.now)
+    × Going l.file.bytes.now l.at l.count (state_with l.initial.group l.initial.store l.initial.depths) (state_with l.group l.store l.depths) l.counts l.counter l.reader.at
