@@ -1,6 +1,5 @@
 -- What the parts of the reader and of the run ask and yield, for the contracts of the private functions. No public contract cites this page: a reader may skip it. Assumes nothing.
 use Rattle.std.specs.Prelude.{◌≡◌, Bool, List, [], ◌∷◌, ◌≢◌, ℕ, ◌+◌, ◌-◌, ◌*◌, ◌≤◌, ◌<◌, length, get_or, take, Result, Ok, Err}
-use Rattle.rules.specs.Limits.{greatest_size}
 use Rattle.rules.specs.Layout.{Sized}
 use Rattle.rules.specs.Tally.{bit_of}
 use Rattle.rules.specs.Answers.{Said, is_refused}
@@ -26,6 +25,7 @@ use Rattle.schedule.specs.declared.file.Places.{Places}
 use Rattle.schedule.specs.declared.file.Form.{Form}
 use Rattle.schedule.specs.declared.counts.Counts.{Counts}
 use Rattle.schedule.specs.declared.run.Ran.{Ran}
+use Rattle.schedule.specs.declared.first.Values.{Values}
 
 -- ---- places
 
@@ -71,6 +71,9 @@ pub record KnownLine (s : List ℕ) (at : ℕ) : Type 0 where
 unfoldable pub heading_at : List ℕ → ℕ → List ℕ → ℕ → Result (ℕ × ℕ) Fault
 heading_at s at w line = on_read (header_at s at w) (λ p. Err (fault_at Flaw.Form line at p)) (λ k a. Ok (k, a))
 
+abbrev pub values_of : Values → List ℕ
+values_of v = take v.n v.all
+
 -- what the values of n lines are, as they were read into an array
 unfoldable pub values_read : ℕ → Result (List ℕ × ℕ) BrokenLine → Rows ℕ
 values_read n (Err broken) = Err broken
@@ -92,15 +95,14 @@ PartIs s at w line left (Err f) = part_at s at w line left ≡ Err f
 PartIs s at w line left (Ok p) = PartGood s at w line left p.count p.start p.end
 
 -- the opening of a file: whatever is read of it begins so
-pub record OpeningGood (s : List ℕ) (n : ℕ) (vs : List ℕ) (at : ℕ) : Type 0 where
-  pub low : 1 ≤ n
-  pub high : n ≤ greatest_size
+pub record OpeningGood (s : List ℕ) (v : Values) (at : ℕ) : Type 0 where
+  pub low : 1 ≤ v.n
   pub within : at ≤ length s
-  pub is : values_from s ≡ warmup_from s (take n vs) at
+  pub is : values_from s ≡ warmup_from s (values_of v) at
 
 unfoldable pub ValuesAre : List ℕ → Result Opening Fault → Type 0
 ValuesAre s (Err f) = values_from s ≡ Err f
-ValuesAre s (Ok o) = OpeningGood s o.n o.values o.at
+ValuesAre s (Ok o) = OpeningGood s o.values o.at
 
 -- the two sections of steps behind n values
 pub record SectionsGood (s : List ℕ) (n at : ℕ) (p : Places) : Type 0 where
@@ -118,21 +120,20 @@ StepsAre s n at (Err f) = (vs : List ℕ) → length vs ≡ n → warmup_from s 
 StepsAre s n at (Ok p) = SectionsGood s n at p
 
 -- a sound file: its schedule, and where the steps stand
-pub record FormGood (s : List ℕ) (n : ℕ) (vs : List ℕ) (p : Places) : Type 0 where
+pub record FormGood (s : List ℕ) (v : Values) (p : Places) : Type 0 where
   pub warmup : List Step
   pub measured : List Step
   pub warmup-end : ℕ
   pub measured-end : ℕ
-  pub low : 1 ≤ n
-  pub high : n ≤ greatest_size
+  pub low : 1 ≤ v.n
   pub warmup-are : StepsAt s p.warmup p.start warmup-end warmup
   pub measured-are : StepsAt s p.measured p.middle measured-end measured
   pub few : p.warmup + p.measured ≤ most_steps
-  pub is : read_file s ≡ Ok (record { values = take n vs; warmup = warmup; measured = measured })
+  pub is : read_file s ≡ Ok (record { values = values_of v; warmup = warmup; measured = measured })
 
 unfoldable pub FormIs : List ℕ → Result Form Fault → Type 0
 FormIs s (Err f) = read_file s ≡ Err f
-FormIs s (Ok r) = FormGood s r.n r.values r.places
+FormIs s (Ok r) = FormGood s r.values r.places
 
 -- ---- the run
 

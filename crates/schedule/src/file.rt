@@ -6,6 +6,7 @@ ghost use Rattle.schedule.specs.Limits as limits;
 ghost use Rattle.schedule.specs.Private.{ValuesAre, StepsAre, FormIs};
 
 use crate::fault::{Fault, Flaw};
+use crate::first::Values;
 use crate::header::{count_fault, heading_at};
 use crate::lf::Lined;
 use crate::part::part_at;
@@ -39,8 +40,7 @@ impl File {
 // The values of a file and the place of its WARMUP line.
 #[derive(Clone, Copy)]
 pub(crate) struct Opening {
-    pub n: u32,
-    pub values: [u32; Group::GREATEST],
+    pub values: Values,
     pub at: usize,
 }
 
@@ -56,8 +56,7 @@ pub(crate) struct Places {
 // A sound file's values, and where its steps stand.
 #[derive(Clone, Copy)]
 pub(crate) struct Form {
-    pub n: u32,
-    pub values: [u32; Group::GREATEST],
+    pub values: Values,
     pub places: Places,
 }
 
@@ -77,11 +76,12 @@ pub(crate) fn read_opening<'a>(file: Lined<'a>) -> Result<Opening, Fault>
     if !is_size(n) {
         return Err(count_fault(Flaw::Values, 1, 0, b"VALUES"));
     }
-    let (values, at) = match read_values(file.bytes, first, n as usize) {
+    let (all, at) = match read_values(file.bytes, first, n as usize) {
         Ok(read) => read,
         Err(broken) => return Err(broken.fault(2)),
     };
-    Ok(Opening { n, values, at })
+    let values = Values { n, all };
+    Ok(Opening { values, at })
 }
 
 // The WARMUP and MEASURED sections from a place on, behind n value lines, to the end of the file.
@@ -110,8 +110,7 @@ pub(crate) fn form_of<'a>(file: Lined<'a>) -> Result<Form, Fault>
     ensures { FormIs file.entry.bytes.now result }
 {
     let opening = read_opening(file)?;
-    let n = opening.n;
     let values = opening.values;
-    let places = read_sections(file, n, opening.at)?;
-    Ok(Form { n, values, places })
+    let places = read_sections(file, values.n, opening.at)?;
+    Ok(Form { values, places })
 }

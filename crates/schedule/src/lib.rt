@@ -5,6 +5,7 @@
 pub mod counts;
 pub mod fault;
 pub mod file;
+mod first;
 pub mod header;
 mod letter;
 mod lf;

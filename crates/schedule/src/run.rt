@@ -5,7 +5,7 @@ ghost use Rattle.schedule.specs.Private.{RunReady, RanTo, BothReady, BothRan, Fo
 
 use crate::counts::Counts;
 use crate::fault::Fault;
-use crate::file::{Places, form_of};
+use crate::file::{Form, Places, form_of};
 use crate::lf::Lined;
 use crate::reader::Reader;
 use rules::group::Group;
@@ -71,24 +71,22 @@ pub(crate) fn run_both<'a>(
 // Runs a sound file: a start with its values, then its steps. A start of 1 to 16 values is refused over a store that is too short alone, and then so is every step.
 pub(crate) fn run_sound<'a>(
     file: Lined<'a>,
-    n: u32,
-    values: [u32; Group::GREATEST],
-    places: Places,
+    form: Form,
     store: &mut [u64],
     depths: &mut [u16],
 ) -> Ran
-    requires { FormGood file.bytes.now n values places }
+    requires { FormGood file.bytes.now form.values form.places }
     ensures { SoundRan file.entry.bytes.now store.old depths.old result store.new depths.new }
 {
-    let begun = Group::start(&values[..n as usize], store, depths);
+    let begun = Group::start(form.values.as_slice(), store, depths);
     if begun.answer.is_err() {
         return Ran {
-            warmup: Counts::refused(places.warmup),
-            measured: Counts::refused(places.measured),
+            warmup: Counts::refused(form.places.warmup),
+            measured: Counts::refused(form.places.measured),
             group: begun.group,
         };
     }
-    run_both(file, places, begun.group, store, depths)
+    run_both(file, form.places, begun.group, store, depths)
 }
 
 // Runs a schedule file over a lent store and the lent depths of its messages. A faulty file runs no step, and leaves both as they were.
@@ -97,7 +95,5 @@ pub fn run(file: &[u8], store: &mut [u64], depths: &mut [u16]) -> Result<Ran, Fa
 {
     let lined = Lined::new(file)?;
     let form = form_of(lined)?;
-    let values = form.values;
-    let places = form.places;
-    Ok(run_sound(lined, form.n, values, places, store, depths))
+    Ok(run_sound(lined, form, store, depths))
 }

@@ -23,7 +23,7 @@ use Rattle.schedule.specs.Line.{closed, line_of, line_at}
 use Rattle.schedule.specs.Header.{word_at, alone_at, header_at, count_at, values_word, warmup_word, measured_word}
 use Rattle.schedule.specs.Values.{value_at}
 use Rattle.schedule.specs.Schedule.{section_of, fault_at, line_fault, part_at, measured_from, warmup_from, values_from, read_file}
-use Rattle.schedule.specs.Private.{read_to, rows_end, values_read, heading_at, PartGood, PartIs, OpeningGood, ValuesAre, StepsAre, FormIs}
+use Rattle.schedule.specs.Private.{read_to, rows_end, values_of, values_read, heading_at, PartGood, PartIs, OpeningGood, ValuesAre, StepsAre, FormIs}
 use Rattle.text.specs.declared.number.Broken.{Broken}
 use Rattle.schedule.specs.declared.fault.BrokenLine.{BrokenLine}
 use Rattle.schedule.specs.declared.part.Part.{Part}
@@ -364,17 +364,18 @@ module _ (s : List ℕ) {r : Result (ℕ × ℕ) Fault} (e : r ≡ heading_at s 
         unfolding ValuesAre values_from
         opening-broken q is = rw (first-head, size, broken-read q, is)
 
-        pub opening-good : {vs : List ℕ} {m : ℕ} → v ≡ Ok (vs, m) → ValuesAre s (Ok (record { n = n; values = vs; at = m }))
+        pub opening-good : (o : Opening) → o.values.n ≡ n → v ≡ Ok (o.values.all, o.at) → ValuesAre s (Ok o)
         unfolding ValuesAre values_read
-        opening-good {vs} {m} q =
-            let all : lines_at (value_at s) n 0 a ≡ rows (take n vs) m = are ∙ rw q in
+        opening-good o z q =
+            let vs = values_of o.values in
+            let m = o.at in
+            let all : lines_at (value_at s) n 0 a ≡ rows vs m = are ∙ rw (q, z) in
             let range = among-true greatest_size n size in
-            let up = opened s n a (take n vs) m first-head range all in
+            let up = opened s n a vs m first-head range all in
             record {
-              low = range.0;
-              high = range.1;
+              low = omega (arith, range.0, z);
               within = stands-high s 0 m _ up.stands (omega arith);
-              is = values-got s (take n vs) n a m first-head size all;
+              is = values-got s vs n a m first-head size all;
             }
 
 -- ---- the whole file
@@ -385,40 +386,36 @@ module _ (s : List ℕ) (short : length s ≤ longest) {r : Result Opening Fault
   form-opening g = read-got s short ∙ subst (ValuesAre s) g e
 
   module _ {o : Opening} (g : r ≡ Ok o) where
-    opening : OpeningGood s o.n o.values o.at
+    opening : OpeningGood s o.values o.at
     unfolding ValuesAre
     opening = subst (ValuesAre s) g e
-
-    pub opening-few : o.n ≤ 16
-    opening-few = opening.high
 
     pub opening-within : o.at ≤ length s
     opening-within = opening.within
 
-    to-warmup : read_file s ≡ warmup_from s (take o.n o.values) o.at
+    to-warmup : read_file s ≡ warmup_from s (values_of o.values) o.at
     to-warmup = read-got s short ∙ opening.is
 
-    values-long : length o.values ≡ 16 → length (take o.n o.values) ≡ o.n
-    values-long long = length-take-le o.n o.values (omega (arith, opening.high, long))
+    values-long : length o.values.all ≡ 16 → length (values_of o.values) ≡ o.values.n
+    values-long long = length-take-le o.values.n o.values.all (omega (arith, o.values.few, long))
 
-    module _ (long : length o.values ≡ 16) {q : Result Places Fault} (d : StepsAre s o.n o.at q) where
+    module _ (long : length o.values.all ≡ 16) {q : Result Places Fault} (d : StepsAre s o.values.n o.at q) where
       pub form-sections : {f : Fault} → q ≡ Err f → FormIs s (Err f)
       unfolding StepsAre FormIs
-      form-sections k = let h = subst (StepsAre s o.n o.at) k d in to-warmup ∙ h (take o.n o.values) (values-long long)
+      form-sections k = let h = subst (StepsAre s o.values.n o.at) k d in to-warmup ∙ h (values_of o.values) (values-long long)
 
-      pub form-good : {p : Places} → q ≡ Ok p → FormIs s (Ok (record { n = o.n; values = o.values; places = p }))
+      pub form-good : {p : Places} → q ≡ Ok p → FormIs s (Ok (record { values = o.values; places = p }))
       unfolding StepsAre FormIs
       form-good k =
-          let h = subst (StepsAre s o.n o.at) k d in
+          let h = subst (StepsAre s o.values.n o.at) k d in
           record {
             warmup = h.warmup;
             measured = h.measured;
             warmup-end = h.warmup-end;
             measured-end = h.measured-end;
             low = opening.low;
-            high = opening.high;
             warmup-are = h.warmup-are;
             measured-are = h.measured-are;
             few = h.few;
-            is = to-warmup ∙ h.is (take o.n o.values) (values-long long);
+            is = to-warmup ∙ h.is (values_of o.values) (values-long long);
           }

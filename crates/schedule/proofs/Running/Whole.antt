@@ -5,7 +5,7 @@ use mathlib.Core.List.{List, [], ◌∷◌}
 use native.Mathlib.Omega.{arith}
 use Prim.Native.Nat.{ℕ, suc, ◌+◌, ◌≤◌}
 use lib.Dec.{ltb}
-use lib.ListN.{length, take}
+use lib.ListN.{length}
 use borrow.Author.Tests.{le-ltb, ltb-false}
 use Rattle.std.specs.Prelude.{Result, Ok, Err, is_err}
 use Rattle.rules.specs.Limits.{greatest_size, store_length}
@@ -24,12 +24,13 @@ use Rattle.rules.proofs.Cited.{or_left, or_right, among_in, deep-keeps, deep-sou
 use Rattle.schedule.specs.Schedule.{Schedule, Reading, Fits, read_file}
 use Rattle.schedule.specs.Run.{counts_of, has_run, run_by, run_of, begins, between}
 use Rattle.schedule.specs.Run.{ran_over}
-use Rattle.schedule.specs.Private.{counted, counted_all, refused_all, FormGood, FormIs, RunReady, state_with, RanSteps, RanTo, BothReady, RanBoth, BothRan, SoundRan}
+use Rattle.schedule.specs.Private.{counted, counted_all, refused_all, values_of, FormGood, FormIs, RunReady, state_with, RanSteps, RanTo, BothReady, RanBoth, BothRan, SoundRan}
 use Rattle.schedule.specs.declared.counts.Counts.{Counts}
 use Rattle.schedule.specs.declared.fault.Fault.{Fault}
 use Rattle.schedule.specs.declared.file.Form.{Form}
 use Rattle.schedule.specs.declared.file.Places.{Places}
 use Rattle.schedule.specs.declared.run.Ran.{Ran}
+use Rattle.schedule.specs.declared.first.Values.{Values}
 use Rattle.schedule.specs.Counts.{counts_in}
 use Rattle.schedule.proofs.Running.Counts.{counted_is}
 use Rattle.schedule.proofs.Files.First.{file-read}
@@ -196,23 +197,23 @@ is_schedule (Ok h) z = h
 same-schedule : {h k : Schedule} → ◌≡◌ {A = Reading} (Ok h) (Ok k) → h ≡ k
 same-schedule {h} {k} e = ap (λ (r : Reading). is_schedule r h) e
 
-module _ (s : List ℕ) (n : ℕ) (vs : List ℕ) (p : Places) (h : FormGood s n vs p) (l d : List ℕ) (g : Group) (l₁ d₁ : List ℕ) (x : Said) (e : outcome g l₁ d₁ x ≡ started (take n vs) l d) where
+module _ (s : List ℕ) (v : Values) (p : Places) (h : FormGood s v p) (l d : List ℕ) (g : Group) (l₁ d₁ : List ℕ) (x : Said) (e : outcome g l₁ d₁ x ≡ started (values_of v) l d) where
   abbrev schedule : Schedule
-  schedule = record { values = take n vs; warmup = h.warmup; measured = h.measured }
+  schedule = record { values = values_of v; warmup = h.warmup; measured = h.measured }
 
   fits : Fits schedule
   fits = (file-read s schedule h.is).1
 
   begun-is : begins schedule l d ≡ state_with g l₁ d₁
-  begun-is = begin-is (take n vs) l d fits.size.0 fits.size.1 g l₁ d₁ x e
+  begun-is = begin-is (values_of v) l d fits.size.0 fits.size.1 g l₁ d₁ x e
 
   pub is-short : is_refused x ≡ (ltb (length l₁) store_length || ltb (length d₁) store_length)
-  is-short = begin-refused (take n vs) l d fits.size.0 fits.size.1 g l₁ d₁ x e
+  is-short = begin-refused (values_of v) l d fits.size.0 fits.size.1 g l₁ d₁ x e
 
   pub sound-ready : (ltb (length l₁) store_length || ltb (length d₁) store_length) ≡ false → BothReady s p g l₁ d₁
   sound-ready k =
       let long = not_short (length l₁) (length d₁) k in
-      let t = begin-steady (take n vs) l d fits.size.0 fits.size.1 g l₁ d₁ x e long.0 long.1 in
+      let t = begin-steady (values_of v) l d fits.size.0 fits.size.1 g l₁ d₁ x e long.0 long.1 in
       record {
         ready = t.ready;
         sized = t.sized;
@@ -269,7 +270,7 @@ module _ (s : List ℕ) {r : Result Form Fault} (h : FormIs s r) where
   run-bad g l d = ap (λ (t : Reading). run_by t l d) (sym (subst (FormIs s) g h))
 
   module _ {f : Form} (g : r ≡ Ok f) where
-    pub run-form : FormGood s f.n f.values f.places
+    pub run-form : FormGood s f.values f.places
     unfolding FormIs
     run-form = subst (FormIs s) g h
 
@@ -277,4 +278,4 @@ module _ (s : List ℕ) {r : Result Form Fault} (h : FormIs s r) where
     unfolding run_of
     run-good q l d l' d' b =
         let w = run-form in
-        b (record { values = take f.n f.values; warmup = w.warmup; measured = w.measured }) w.is ∙ ap (λ (t : Reading). run_by t l d) (sym w.is)
+        b (record { values = values_of f.values; warmup = w.warmup; measured = w.measured }) w.is ∙ ap (λ (t : Reading). run_by t l d) (sym w.is)

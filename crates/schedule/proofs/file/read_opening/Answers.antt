@@ -1,4 +1,5 @@
 -- Each return is one case of the definition: no header, a wrong number of values, a faulty line, or all values. Assumes nothing.
+use mathlib.Core.Path.{refl}
 use native.Mathlib.Omega.{arith}
 use Rattle.std.proofs.lemmas.Result.{err_from_is_err_and}
 use Rattle.schedule.proofs.Reading.Whole.{opening-none, opening-size, size_few, opening-stop, opening-broken, opening-good}
@@ -21,5 +22,8 @@ fault-requires c =
 pub returns-in-Err : goal.returns-in-Err
 returns-in-Err c = opening-broken _ c.heading_at.ensures c.in_ok-n.was c.is_size.ensures c.if-not-is_size.false c.read_values.ensures c.in-Err.is c.fault.ensures
 
+pub invariant_of-values : goal.invariant_of-values
+invariant_of-values c = record { few = size_few _ c.is_size.ensures c.if-not-is_size.false }
+
 pub returns : goal.returns
-returns c = opening-good _ c.heading_at.ensures c.in_ok-n.was c.is_size.ensures c.if-not-is_size.false c.read_values.ensures c.in-Ok.is
+returns c = opening-good _ c.heading_at.ensures c.in_ok-n.was c.is_size.ensures c.if-not-is_size.false c.read_values.ensures _ refl c.in-Ok.is

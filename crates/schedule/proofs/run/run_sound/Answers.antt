@@ -5,15 +5,15 @@ use Rattle.schedule.proofs.run.run_sound.Goals as goal
 
 pub returns-then-is_err : goal.returns-then-is_err
 returns-then-is_err c =
-    let e = c.start-begun.ensures in
-    let k = sym (is-short _ _ _ _ c.requires _ _ _ _ _ _ e) ∙ (said-err _ ∙ sym c.is_err.ensures.value ∙ c.if-is_err.true) in
-    sound-short _ _ _ _ c.requires _ _ _ _ _ _ e k _ _ c.refused.ensures c.refused-then-is_err.ensures
+    let e = rw c.as_slice.ensures at c.start-begun.ensures in
+    let k = sym (is-short _ _ _ c.requires _ _ _ _ _ _ e) ∙ (said-err _ ∙ sym c.is_err.ensures.value ∙ c.if-is_err.true) in
+    sound-short _ _ _ c.requires _ _ _ _ _ _ e k _ _ c.refused.ensures c.refused-then-is_err.ensures
 
 pub run_both-requires : goal.run_both-requires
 run_both-requires c =
-    let e = c.start-begun.ensures in
-    let k = sym (is-short _ _ _ _ c.requires _ _ _ _ _ _ e) ∙ (said-err _ ∙ sym c.is_err.ensures.value ∙ c.if-is_err.false) in
-    sound-ready _ _ _ _ c.requires _ _ _ _ _ _ e k
+    let e = rw c.as_slice.ensures at c.start-begun.ensures in
+    let k = sym (is-short _ _ _ c.requires _ _ _ _ _ _ e) ∙ (said-err _ ∙ sym c.is_err.ensures.value ∙ c.if-is_err.false) in
+    sound-ready _ _ _ c.requires _ _ _ _ _ _ e k
 
 pub returns : goal.returns
-returns c = sound-both _ _ _ _ c.requires _ _ _ _ _ _ c.start-begun.ensures _ _ _ c.run_both.ensures
+returns c = sound-both _ _ _ c.requires _ _ _ _ _ _ (rw c.as_slice.ensures at c.start-begun.ensures) _ _ _ c.run_both.ensures
