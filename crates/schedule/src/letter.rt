@@ -1,6 +1,6 @@
 // The step letters: which numbers follow each, whether its step may be cut, and the step that it makes of them.
 // Each method is a match over the eight: a table of functions would be these arms again.
-ghost use Rattle.std.specs.Prelude.{◌≡◌};
+ghost use Rattle.std.specs.Prelude.{◌≡◌, Some, None, MatchResult};
 ghost use Rattle.schedule.specs.Line.{letter_of, numbers_after, may_cut, step_of};
 
 use rules::step::Step;
@@ -17,25 +17,33 @@ pub(crate) enum Letter {
     R,
 }
 
-impl Letter {
-    // The letter of a byte; none where the byte is no step letter.
+// A byte that is no step letter.
+#[derive(Clone, Copy, PartialEq, Eq, Debug)]
+pub(crate) struct NoLetter {}
+
+// The letter of a byte.
+impl TryFrom<u8> for Letter {
+    type Error = NoLetter;
+
+    ghost try_from_gives = { λ byte r. MatchResult r (λ letter. letter_of byte ≡ Some letter) (λ _. letter_of byte ≡ None) };
+
     #[tactic(auto, unfolding(crate::specs::Line::letter_of))]
-    pub(crate) fn of(byte: u8) -> Option<Letter>
-        ensures { result ≡ letter_of byte }
-    {
+    fn try_from(byte: u8) -> Result<Letter, NoLetter> {
         match byte {
-            b'E' => Some(Letter::E),
-            b'S' => Some(Letter::S),
-            b'F' => Some(Letter::F),
-            b'Z' => Some(Letter::Z),
-            b'Q' => Some(Letter::Q),
-            b'P' => Some(Letter::P),
-            b'C' => Some(Letter::C),
-            b'R' => Some(Letter::R),
-            _ => None,
+            b'E' => Ok(Letter::E),
+            b'S' => Ok(Letter::S),
+            b'F' => Ok(Letter::F),
+            b'Z' => Ok(Letter::Z),
+            b'Q' => Ok(Letter::Q),
+            b'P' => Ok(Letter::P),
+            b'C' => Ok(Letter::C),
+            b'R' => Ok(Letter::R),
+            _ => Err(NoLetter {}),
         }
     }
+}
 
+impl Letter {
     // How many numbers follow.
     #[tactic(auto, unfolding(crate::specs::Line::numbers_after))]
     pub(crate) fn numbers(self) -> u8

@@ -87,7 +87,7 @@ pub(crate) fn line_by<L: Look>(s: &[u8], at: usize) -> Result<(Step, usize), Bro
     requires { L.may s.now at }
     ensures { result ≡ line_at s.now at }
 {
-    let Some(letter) = Letter::of(L::byte(s, at)) else {
+    let Ok(letter) = Letter::try_from(L::byte(s, at)) else {
         return Err(Broken { place: at });
     };
     let count = letter.numbers();
@@ -139,7 +139,7 @@ pub(crate) fn known_line(s: &[u8], at: usize) -> (Step, usize)
     requires { KnownLine s.now at }
     ensures { line_at s.now at ≡ Ok result }
 {
-    let letter = Letter::of(s[at]).unwrap();
+    let letter = Letter::try_from(s[at]).unwrap();
     let count = letter.numbers();
     let (a, n) = known_next(s, at + 1, true);
     let (b, m) = known_next(s, n, 1 < count);

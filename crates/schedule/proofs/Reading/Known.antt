@@ -8,8 +8,9 @@ use native.Mathlib.Decide.{dec_lt}
 use lib.Dec.{ltb, leb, eqb}
 use lib.ListN.{length, get_or, drop}
 use borrow.Author.Tests.{eqb-true, eqb-false}
-use Rattle.std.specs.Prelude.{Option, Some, None, Ok, Err}
+use Rattle.std.specs.Prelude.{Option, Some, None, Result, Ok, Err, IsOk, MatchResult}
 use Rattle.schedule.specs.declared.letter.Letter.{Letter}
+use Rattle.schedule.specs.declared.letter.NoLetter.{NoLetter}
 use Rattle.text.specs.Read.{Read, bad, on_read}
 use Rattle.text.proofs.ReadLaws.{got, same-thing, same_place, bad-not}
 use Rattle.rules.specs.declared.step.Step.{Step}
@@ -181,6 +182,14 @@ pub record Chain (s : List ℕ) (at : ℕ) (x : Step) (next : ℕ) : Type 0 wher
 past-end : letter_of 0 ≡ None
 unfolding letter_of
 past-end = refl
+
+-- a byte with a letter is converted
+pub letter-ok : (b : ℕ) {l : Letter} (r : Result Letter NoLetter) → MatchResult r (λ (x : Letter). letter_of b ≡ Some x) (λ _. letter_of b ≡ None) → letter_of b ≡ Some l → IsOk r
+letter-ok b (Ok x) h g = refl
+letter-ok b {l} (Err e) h g =
+    let z : None ≡ Some l = sym h ∙ g in
+    let u : ◌≡◌ {A = ℕ} 0 1 = cc in
+    absurd (omega arith)
 
 pub letter-here : (s : List ℕ) (at : ℕ) {b : Letter} → letter_of (get_or s at 0) ≡ Some b → at < length s
 letter-here s at {b} h = go (dec_lt 0 (get_or s at 0))
