@@ -36,7 +36,7 @@ pub(crate) fn put_fault(out: &mut [u8], at: usize, fault: Fault) -> usize
     requires { at + private.longest_fault ≤ length out.old }
     ensures { Piece private.longest_fault out.old at (reports.fault_line fault) out.new result }
 {
-    let number = fault.flaw.number() as u32;
+    let number = u8::from(fault.flaw) as u32;
     let line = fault.line;
     let column = fault.column;
     let numbers = [number, line, column];

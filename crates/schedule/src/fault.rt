@@ -12,12 +12,12 @@ pub enum Flaw {
     Size = 10,
 }
 
-impl Flaw {
-    // The refusal's number.
-    pub fn number(self) -> u8
-        ensures { result ≡ number_of self }
-    {
-        self as u8
+// The refusal's number.
+impl From<Flaw> for u8 {
+    ghost from_gives = { λ flaw number. number ≡ number_of flaw };
+
+    fn from(flaw: Flaw) -> u8 {
+        flaw as u8
     }
 }
 

@@ -105,7 +105,7 @@ pub fn step_line(s: &[u8], at: usize) -> Result<(Step, usize), Broken>
 }
 
 // ---- a line that is known to keep the form: nothing is tested again
-// It is read by functions of its own: on `long_five` 1,366,572 instructions, with `line_by` of `Untested` in their place 1,908,053, of `Tested` 1,793,712 (docs/SPEED.md).
+// It is read by functions of its own: measured side by side on `long_five` 1,366,572 instructions, with `line_by` of `Untested` in their place 1,908,053, of `Tested` 1,793,712 (docs/SPEED.md).
 
 // The number at a place, and the place after it.
 pub(crate) fn known_number(s: &[u8], at: usize) -> (u32, usize)

@@ -4,4 +4,4 @@ use Rattle.page.proofs.report.put_fault.Goals as goal
 
 pub returns : goal.returns
 unfolding fault_line
-returns c = rw (← c.number-number.ensures) c.fill.ensures
+returns c = rw (← c.from-number.ensures) c.fill.ensures
