@@ -322,10 +322,10 @@ pub wanting-outcome : (g : Group) (l d : List ℕ) (s : Step) {k : ℕ} → row 
 unfolding row
 wanting-outcome g l d s {k} e h = go (short l) (short d) refl refl e
   where
-  go : (x y : Bool) → short l ≡ x → short d ≡ y → row x 11 (row y 14 0) ≡ k → outcome g l d (says_refused k) ≡ stepped g l d s
-  go true y p q w = rw (sym w) (short-outcome g l d s p)
-  go false true p q w = rw (sym w) (shallow-outcome g l d s p q)
-  go false false p q w = absurd (h (sym w))
+    go : (x y : Bool) → short l ≡ x → short d ≡ y → row x 11 (row y 14 0) ≡ k → outcome g l d (says_refused k) ≡ stepped g l d s
+    go true y p q w = rw (sym w) (short-outcome g l d s p)
+    go false true p q w = rw (sym w) (shallow-outcome g l d s p q)
+    go false false p q w = absurd (h (sym w))
 
 pub damaged-outcome : (g : Group) (l d : List ℕ) (s : Step) → short l ≡ false → short d ≡ false → damaged g ≡ true
     → outcome g l d (says_refused 2) ≡ stepped g l d s
