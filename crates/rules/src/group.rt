@@ -11,7 +11,7 @@ use crate::step::Answer;
 use crate::tally;
 
 // A process of a group: its record, and its depth, which no rule about records reads.
-#[derive(Clone, Copy)]
+#[derive(Clone, Copy, Default)]
 pub struct Member {
     pub process: Process,
     pub depth: u16,
@@ -53,13 +53,11 @@ pub(crate) fn whole(n: Size, p: Process) -> bool
 
 impl Member {
     // A blank record, and the depth 0.
+    #[tactic(auto, unfolding(crate::specs::Records::blank))]
     pub(crate) fn nobody() -> Member
         ensures { result ≡ layout.nobody }
     {
-        Member {
-            process: Process::blank(),
-            depth: 0,
-        }
+        Member::default()
     }
 
     // Whether the record has no damage among n, and the depth is not too great.
@@ -152,6 +150,7 @@ impl Group {
         let Some(n) = Size::new(self.n as usize) else {
             return true;
         };
+        // All sixteen are looked at, without a branch: a loop that ends at the first damage costs more where there is none (docs/DECISIONS.md, 28).
         let mut sound = true;
         for (k, member) in self.members.iter().enumerate() {
             sound = sound & (member.is_sound(n) | (self.n as usize <= k));

@@ -38,7 +38,7 @@ pub struct Seat {
 // Two fields and not an option: `Group::step` promises an answer for every group, one with a number under a false `decided` too, and keeps that number.
 // Phases stay numbers, and round and proposer of any size: a record with another phase is damaged, and refused by that.
 // The two that no message changes stand first, the others by width: of the orders tried this one is cheapest to take out and to put back.
-#[derive(Clone, Copy)]
+#[derive(Clone, Copy, Default)]
 pub struct Process {
     pub first: u32,
     pub recoveries: u8,
@@ -136,20 +136,7 @@ impl Process {
     pub(crate) fn blank() -> Process
         ensures { result ≡ records.blank }
     {
-        Process {
-            first: 0,
-            round: 0,
-            phase: 0,
-            proposer: 0,
-            value: 0,
-            marked: false,
-            decided: false,
-            decision: 0,
-            recoveries: 0,
-            up: false,
-            estimates: 0,
-            suspicions: 0,
-        }
+        Process::default()
     }
 
     // ---- stages

@@ -55,10 +55,13 @@ impl Group {
         };
         for (k, &value) in values.iter().enumerate() {
             let i = Id::known(k as u32 + 1);
-            group.members[k] = Member {
-                process: Process::fresh(i, value),
-                depth: 0,
-            };
+            group.put(
+                i,
+                Member {
+                    process: Process::fresh(i, value),
+                    depth: 0,
+                },
+            );
         }
         group
     }

@@ -8,7 +8,7 @@ use rules::refusal::Refusal;
 use rules::step::Answer;
 
 // How many steps a section has; how many of them were applied, idle and refused; how many messages were handed over, and how many of them again; how many processes decided.
-#[derive(Clone, Copy)]
+#[derive(Clone, Copy, Default)]
 pub struct Counts {
     pub steps: u32,
     pub applied: u32,
@@ -24,15 +24,7 @@ impl Counts {
     pub(crate) fn none() -> Counts
         ensures { result ≡ counts.none }
     {
-        Counts {
-            steps: 0,
-            applied: 0,
-            idle: 0,
-            refused: 0,
-            sent: 0,
-            again: 0,
-            decided: 0,
-        }
+        Counts::default()
     }
 
     // Of steps that are all refused.
