@@ -45,7 +45,7 @@ pub(crate) fn whole(n: Size, p: Process) -> bool
     ensures { result ≡ refusals.whole n p }
 {
     let phase = is_phase(p.phase);
-    let proposer = (1 <= p.proposer) & (p.proposer <= n.number());
+    let proposer = (1..=n.number()).contains(&p.proposer);
     let estimates = tally::within(p.estimates, n);
     let suspicions = tally::within(p.suspicions, n);
     (p.round <= Process::LAST_ROUND) & (phase & (proposer & (estimates & suspicions)))
@@ -115,14 +115,11 @@ impl Group {
     }
 
     // Process i, and nobody where i is not 1 to 16.
-    #[tactic(auto, unfolding(crate::specs::Layout::record_of, crate::specs::Layout::depth_of, crate::specs::Layout::record_if, crate::specs::Layout::depth_if, crate::specs::Limits::among))]
+    #[tactic(auto, using(crate::proofs::Laws::Row::among_in), unfolding(crate::specs::Layout::process_at, crate::specs::Layout::depth_at, crate::specs::Records::blank, crate::specs::Layout::record_of, crate::specs::Layout::depth_of, crate::specs::Layout::record_if, crate::specs::Layout::depth_if, crate::specs::Limits::among))]
     pub(crate) fn look(&self, i: u32) -> Member
         ensures { (result.process ≡ layout.record_of self.now i) × (result.depth ≡ layout.depth_of self.now i) }
     {
-        if i == 0 {
-            return Member::nobody();
-        }
-        if Group::GREATEST < i as usize {
+        if !(1..=Group::GREATEST as u32).contains(&i) {
             return Member::nobody();
         }
         self.members[i as usize - 1]

@@ -43,10 +43,7 @@ impl Size {
     pub(crate) fn new(n: usize) -> Option<Size>
         ensures { result ≡ limits.if_among limits.greatest_size n }
     {
-        if n == 0 {
-            return None;
-        }
-        if Group::GREATEST < n {
+        if !(1..=Group::GREATEST).contains(&n) {
             return None;
         }
         Some(Size { n: n as u8 })
@@ -73,10 +70,7 @@ impl Size {
     pub(crate) fn id(self, m: u32) -> Option<Id>
         ensures { result ≡ limits.if_among self m }
     {
-        if m == 0 {
-            return None;
-        }
-        if (self.n as u32) < m {
+        if !(1..=self.n as u32).contains(&m) {
             return None;
         }
         Some(Id { number: m as u8 })

@@ -65,7 +65,7 @@ pub(crate) struct Form {
 pub(crate) fn is_size(n: u32) -> bool
     ensures { result ≡ among greatest_size n }
 {
-    1 <= n && n <= Group::GREATEST as u32
+    (1..=Group::GREATEST as u32).contains(&n)
 }
 
 // The VALUES section.
