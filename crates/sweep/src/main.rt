@@ -11,6 +11,13 @@ use std::io::Read;
 use std::rt::{Env, Files};
 use std::{fs, io};
 
+// The store and the depths of its messages, which every report is lent.
+#[derive(Drop)]
+struct Stores {
+    store: [u64; Store::LENGTH],
+    depths: [u16; Store::LENGTH],
+}
+
 // A write that fails ends the program with an error.
 fn say(rt: &impl Print, text: &[u8]) -> io::Result<()> {
     rt.write_all(text)
@@ -21,24 +28,16 @@ fn say_unread(rt: &impl Print, name: &[u8]) -> io::Result<()> {
     say(rt, b": cannot be read\n")
 }
 
-fn say_report(
-    rt: &impl Print,
-    file: &[u8],
-    store: &mut [u64; Store::LENGTH],
-    depths: &mut [u16; Store::LENGTH],
-) -> io::Result<()> {
+fn say_report(rt: &impl Print, file: &[u8], stores: &mut Stores) -> io::Result<()> {
     let mut out = [0u8; Report::LONGEST];
-    let k = write_report(file, store, depths, &mut out);
+    let k = write_report(file, &mut stores.store, &mut stores.depths, &mut out);
     say(rt, &out[..k])
 }
 
 // Whether an open file has been read to its end: a read answers 0 there, and nowhere else.
 fn at_end<R: Read>(from: &mut R) -> bool {
     let mut next = [0u8; 1];
-    match from.read(&mut next) {
-        Ok(n) => n == 0,
-        Err(_) => false,
-    }
+    matches!(from.read(&mut next), Ok(0))
 }
 
 // One byte more than a schedule file may have is read, so that too long a file shows. Any other file must be read to its end.
@@ -46,8 +45,7 @@ fn sweep_open<R: Read>(
     rt: &impl Print,
     name: &[u8],
     from: &mut R,
-    store: &mut [u64; Store::LENGTH],
-    depths: &mut [u16; Store::LENGTH],
+    stores: &mut Stores,
 ) -> io::Result<()> {
     // Lent arrays of a size that is known: nothing is allocated, so there is nothing that can fail to be.
     let mut file = [0u8; File::LONGEST + 1];
@@ -57,21 +55,16 @@ fn sweep_open<R: Read>(
     }
     say(rt, name)?;
     say(rt, b"\n")?;
-    say_report(rt, &file[..n], store, depths)
+    say_report(rt, &file[..n], stores)
 }
 
 // A name that is not UTF-8 names no file here: a path is text.
-fn sweep_name(
-    rt: &(impl Print + Files),
-    name: &[u8],
-    store: &mut [u64; Store::LENGTH],
-    depths: &mut [u16; Store::LENGTH],
-) -> io::Result<()> {
+fn sweep_name(rt: &(impl Print + Files), name: &[u8], stores: &mut Stores) -> io::Result<()> {
     let Ok(path) = str::from_utf8(name) else {
         return say_unread(rt, name);
     };
     match fs::open(rt, path) {
-        Ok(mut file) => sweep_open(rt, name, &mut file, store, depths),
+        Ok(mut file) => sweep_open(rt, name, &mut file, stores),
         Err(_) => say_unread(rt, name),
     }
 }
@@ -80,12 +73,11 @@ fn sweep_name(
 fn sweep_argument(
     rt: &(impl Print + Files + Env),
     i: usize,
-    store: &mut [u64; Store::LENGTH],
-    depths: &mut [u16; Store::LENGTH],
+    stores: &mut Stores,
 ) -> io::Result<bool> {
     let mut name = [0u8; 4096];
     match rt.arg(i, &mut name) {
-        Ok(length) => sweep_name(rt, &name[..length], store, depths)?,
+        Ok(length) => sweep_name(rt, &name[..length], stores)?,
         Err(FillError::TooLong) => say_unread(rt, &name)?,
         Err(FillError::NotPresent) => return Ok(false),
     }
@@ -94,10 +86,12 @@ fn sweep_argument(
 
 // Argument 0 is the program's own name.
 fn main(rt: HostRuntime) -> io::Result<()> {
-    let mut store = [0u64; Store::LENGTH];
-    let mut depths = [0u16; Store::LENGTH];
+    let mut stores = Stores {
+        store: [0; Store::LENGTH],
+        depths: [0; Store::LENGTH],
+    };
     for i in 1..usize::MAX {
-        if !sweep_argument(&rt, i, &mut store, &mut depths)? {
+        if !sweep_argument(&rt, i, &mut stores)? {
             break;
         }
     }
