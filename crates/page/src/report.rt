@@ -60,7 +60,7 @@ pub(crate) fn put_section(out: &mut [u8], at: usize, word: &[u8], c: Counts) -> 
     )
 }
 
-// The line of process i with the record p and this depth.
+// The line of process i with the record p and this depth: the two that `Group::process` and `Group::depth` promise.
 pub(crate) fn put_process(out: &mut [u8], at: usize, i: u32, p: Process, depth: u16) -> usize
     requires { at + private.longest_line ≤ length out.old }
     ensures { Piece private.longest_line out.old at (reports.process_line i p depth) out.new result }
@@ -79,7 +79,7 @@ pub(crate) fn put_process(out: &mut [u8], at: usize, i: u32, p: Process, depth: 
     }
 }
 
-// The lines of a group's processes.
+// The lines of a group's processes, by their numbers, as the definition `Report.process_lines` is. A group may have any n, so that at most 16 is asked.
 pub(crate) fn put_processes(out: &mut [u8], at: usize, group: Group) -> usize
     requires { (group.n ≤ greatest_size) × (at + group.n * private.longest_line ≤ length out.old) }
     ensures { Piece (group.n * private.longest_line) out.old at (reports.process_lines group group.n) out.new result }

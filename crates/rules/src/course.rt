@@ -27,6 +27,7 @@ pub struct Taking {
 }
 
 // Where a step leads: the process that takes it, the place of the message that it delivers, if it delivers one, and whether it recovers the process.
+// The sender and the round are not carried along, since half the kinds of steps have none: `last_way` takes them from the step, of which they are known by then.
 #[derive(Clone, Copy)]
 pub struct Address {
     pub taker: Id,
@@ -41,7 +42,7 @@ pub struct Heard {
     pub depth: u16,
 }
 
-// What it carries, once it is known to name a process of the group: an estimate, and what it lifts a depth to.
+// What a step brings, once a message is known to name a process of the group: an estimate, and what it lifts a depth to.
 #[derive(Clone, Copy)]
 pub struct Carried {
     pub estimate: Estimate,
@@ -49,7 +50,7 @@ pub struct Carried {
 }
 
 impl Carried {
-    // What a step that delivers no message carries: as much as entry 0 and depth 0.
+    // What a step that delivers no message carries: as much as entry 0 and depth 0. It is no `Option`: so the definition `Private.held_course` reads it.
     #[tactic(auto, unfolding(crate::specs::Private::Carries))]
     pub(crate) fn nothing() -> Carried
         ensures { private.Carries 0 0 result }

@@ -49,7 +49,7 @@ impl Size {
         Some(Size { n: n as u8 })
     }
 
-    // The size of a group that is known to have it.
+    // The size of a group that is known to have it. Methods, and no `From`: `number` says the two bounds as well, and is no plainer as `u8::from`.
     pub(crate) fn known(n: u8) -> Size
         requires { (1 ≤ n) × (n ≤ limits.greatest_size) }
         ensures { result ≡ n }

@@ -44,7 +44,7 @@ pub(crate) struct Opening {
     pub at: usize,
 }
 
-// How many steps the two sections have, and where the first of each stands.
+// How many steps the two sections have, and where the first of each stands: four numbers, since a pair for each section would be taken apart wherever it is used.
 #[derive(Clone, Copy)]
 pub(crate) struct Places {
     pub warmup: u32,
@@ -76,6 +76,7 @@ pub(crate) fn read_opening<'a>(file: Lined<'a>) -> Result<Opening, Fault>
     if !is_size(n) {
         return Err(count_fault(Flaw::Values, 1, 0, b"VALUES"));
     }
+    // No `map_err`, as in `heading_at`.
     let (all, at) = match read_values(file.bytes, first, n as usize) {
         Ok(read) => read,
         Err(broken) => return Err(broken.fault(2)),

@@ -4,7 +4,7 @@ ghost use Rattle.rules.specs.Limits.{greatest_size};
 
 use rules::group::Group;
 
-// The values of a file: the first n of the array.
+// The values of a file: the first n of the array. An array with n beside it, since nothing is allocated; and n is no `Size` of the rules, which is made there alone.
 #[derive(Clone, Copy)]
 pub(crate) struct Values {
     pub n: u32,

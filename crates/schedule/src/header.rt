@@ -17,6 +17,7 @@ use text::number::Broken;
 pub(crate) fn word_at(s: &[u8], at: usize, word: &[u8]) -> Result<usize, Broken>
     ensures { result ≡ word_at s.now at word.now }
 {
+    // The place is counted beside the bytes: it is what is answered.
     let mut place = at;
     for byte in word {
         if place >= s.len() {
@@ -48,6 +49,7 @@ pub fn heading(s: &[u8], at: usize, word: &[u8]) -> Result<(u32, usize), Broken>
 }
 
 // The same of a file in which it is the line-th line: the fault of its form where it breaks it.
+// The file and the place stay two parameters, here and in what reads a part: each function is given a place and answers the next, as its definition does (`Schedule.part_at`). What moves along a file is the `Reader`.
 pub(crate) fn heading_at<'a>(
     file: Lined<'a>,
     at: usize,

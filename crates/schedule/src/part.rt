@@ -31,6 +31,7 @@ pub(crate) fn part_at<'a>(
     if left < count {
         return Err(count_fault(Flaw::Size, line, at, word));
     }
+    // No `map_err`, as in `heading_at`.
     match check_steps(file, start, count) {
         Ok(end) => Ok(Part { count, start, end }),
         Err(broken) => Err(broken.fault(line + 1)),

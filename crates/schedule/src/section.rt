@@ -10,6 +10,7 @@ use crate::lf::Lined;
 use crate::reader::Reader;
 
 // The place after the count step lines from a place on, or the first of them that breaks the form.
+// It is no twin of `read_values`, whose loop fills an array, as this one keeps nothing.
 pub(crate) fn check_steps<'a>(file: Lined<'a>, at: usize, count: u32) -> Result<usize, BrokenLine>
     ensures { result ≡ rows_end (lines_at (line_at file.entry.bytes.now) count 0 at) }
 {

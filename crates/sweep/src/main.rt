@@ -90,6 +90,7 @@ fn main(rt: HostRuntime) -> io::Result<()> {
         store: [0; Store::LENGTH],
         depths: [0; Store::LENGTH],
     };
+    // By number: an iterator over the arguments would give strings, which are allocated.
     for i in 1..usize::MAX {
         if !sweep_argument(&rt, i, &mut stores)? {
             break;

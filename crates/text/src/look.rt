@@ -2,6 +2,7 @@
 ghost use Rattle.std.specs.Prelude.{◌≡◌, ◌≢◌, ℕ, ◌+◌, List, get_or};
 ghost use Rattle.text.specs.Look.{Anywhere};
 
+// The text and the place are two parameters wherever a byte is read: the public functions `decimal`, `byte_at`, `step_line` and `heading` take both, at any place of any bytes.
 pub trait Look {
     // Where a byte may be looked at.
     ghost may: { List ℕ → ℕ → Type 0 };
