@@ -1,4 +1,4 @@
--- The columns of faulty files, by example: read_file computes each row. Assumes nothing.
+-- The faults of faulty files, by example: read_file computes each row. Assumes nothing.
 use mathlib.Core.Path.{refl}
 use Rattle.text.specs.Number.{is_digit, scan, number_at}
 use Rattle.rules.specs.Limits.{among}
@@ -14,4 +14,4 @@ unfolding is_digit scan number_at
     among Every before lines_at
     letter_of numbers_after may_cut step_of closed spaced_at next_number end_at ended_at after_letter line_at
     word_at alone_at header_at value_at part_at measured_from warmup_from values_from read_file
-fault-table-holds = (refl, (refl, (refl, (refl, (refl, (refl, (refl, (refl, (refl, (refl, (refl, (refl, (refl, (refl, (refl, (refl, (refl, (refl, (refl, (refl, (refl, (refl, (refl, (refl, (refl, (refl, (refl, (refl, (refl, (refl, (refl, (refl, tt))))))))))))))))))))))))))))))))
+fault-table-holds = ((refl, refl), ((refl, refl), ((refl, refl), ((refl, refl), ((refl, refl), ((refl, refl), ((refl, refl), ((refl, refl), ((refl, refl), ((refl, refl), ((refl, refl), ((refl, refl), ((refl, refl), ((refl, refl), ((refl, refl), ((refl, refl), ((refl, refl), ((refl, refl), ((refl, refl), ((refl, refl), ((refl, refl), ((refl, refl), ((refl, refl), ((refl, refl), ((refl, refl), ((refl, refl), ((refl, refl), ((refl, refl), ((refl, refl), ((refl, refl), ((refl, refl), ((refl, refl), tt))))))))))))))))))))))))))))))))

@@ -8,7 +8,7 @@ use Rattle.schedule.specs.Lines.{Every, lines_of}
 use Rattle.schedule.specs.Line.{space_byte, line_feed, line_of, Small, Holdable}
 use Rattle.schedule.specs.Header.{values_word, warmup_word, measured_word, header_of}
 use Rattle.schedule.specs.Values.{value_line}
-use Rattle.schedule.specs.Schedule.{Schedule, section_of, file_of, Size, Fits, too_long, read_file}
+use Rattle.schedule.specs.Schedule.{Schedule, section_of, file_of, Size, Fits, number_of, too_long, read_file}
 use Rattle.schedule.specs.declared.fault.Fault.{Fault}
 use Rattle.schedule.specs.declared.fault.Flaw.{Flaw}
 
@@ -101,18 +101,22 @@ pub record Surplus (rest : List ℕ) (column : ℕ) : Type 0 where
   pub is : rest ≡ byte ∷ more
   pub place : column ≡ 1
 
+-- what is wrong, with the refusal's number
+abbrev pub Refused : Fault → Flaw → ℕ → Type 0
+Refused f flaw number = (f.flaw ≡ flaw) × (number_of f.flaw ≡ number)
+
 abbrev pub Nine : Place → List ℕ → Fault → Type 0
-Nine p rest f = (f.flaw ≡ Flaw.Form) × BreaksForm (Asked p) rest f.column
+Nine p rest f = Refused f Flaw.Form 9 × BreaksForm (Asked p) rest f.column
 
 -- refusal 9 where the line breaks the form, 1 for "not 1 to 16 values", 10 for "a count that takes the steps above 4,096"
 abbrev pub FaultyLine : Place → List ℕ → Fault → Type 0
-FaultyLine at_values rest f = Nine at_values rest f ⊎ ((f.flaw ≡ Flaw.Values) × WrongCount values_word (λ n. Size n → ⊥) rest f.column)
+FaultyLine at_values rest f = Nine at_values rest f ⊎ (Refused f Flaw.Values 1 × WrongCount values_word (λ n. Size n → ⊥) rest f.column)
 FaultyLine (at_value n vs) rest f = Nine (at_value n vs) rest f
-FaultyLine (at_warmup vs) rest f = Nine (at_warmup vs) rest f ⊎ ((f.flaw ≡ Flaw.Size) × WrongCount warmup_word (λ k. most_steps < k) rest f.column)
+FaultyLine (at_warmup vs) rest f = Nine (at_warmup vs) rest f ⊎ (Refused f Flaw.Size 10 × WrongCount warmup_word (λ k. most_steps < k) rest f.column)
 FaultyLine (at_warmup_step vs k ws) rest f = Nine (at_warmup_step vs k ws) rest f
-FaultyLine (at_measured vs ws) rest f = Nine (at_measured vs ws) rest f ⊎ ((f.flaw ≡ Flaw.Size) × WrongCount measured_word (λ k. most_steps < length ws + k) rest f.column)
+FaultyLine (at_measured vs ws) rest f = Nine (at_measured vs ws) rest f ⊎ (Refused f Flaw.Size 10 × WrongCount measured_word (λ k. most_steps < length ws + k) rest f.column)
 FaultyLine (at_measured_step vs ws k ms) rest f = Nine (at_measured_step vs ws k ms) rest f
-FaultyLine (at_end vs ws ms) rest f = (f.flaw ≡ Flaw.Form) × Surplus rest f.column
+FaultyLine (at_end vs ws ms) rest f = Refused f Flaw.Form 9 × Surplus rest f.column
 
 -- how many LFs stand in a text
 unfoldable pub line_feeds : List ℕ → ℕ
@@ -138,5 +142,5 @@ pub record Files : Type 0 where
   -- no two files are read as one schedule
   pub one : (s t : List ℕ) (h : Schedule) → read_file s ≡ Ok h → read_file t ≡ Ok h → s ≡ t
   -- "Too long a file is refused before any line is read." Any other that is refused is so for its first fault
-  pub long : (s : List ℕ) → longest < length s → read_file s ≡ Err too_long
+  pub long : (s : List ℕ) → longest < length s → (read_file s ≡ Err too_long) × (number_of too_long.flaw ≡ 10)
   pub first : (s : List ℕ) (f : Fault) → length s ≤ longest → read_file s ≡ Err f → FirstFault s f

@@ -98,7 +98,7 @@ end-surplus s vs v ws w ms few hold e p h =
       kept = (v, w, few, hold);
       is = p.here ∙ ap (λ (l : List ℕ). l ++ drop e s) same;
       line = after-measured vs ws ms ∙ ap (λ (l : List ℕ). line_feeds l + 1) same;
-      fault = (refl, record { byte = get_or s e 0; more = drop (suc e) s; is = drop-cons s e 0 inside; place = one });
+      fault = ((refl, refl), record { byte = get_or s e 0; more = drop (suc e) s; is = drop-cons s e 0 inside; place = one });
     }
 
 -- a count that is refused is none of 1 to 16

@@ -13,8 +13,8 @@ use Rattle.text.proofs.StandsLaws.{stands-join, stands-high}
 use Rattle.schedule.specs.Lines.{Every, broken_at, lines_at, lines_of}
 use Rattle.schedule.specs.Line.{space_byte, Small}
 use Rattle.schedule.specs.Header.{header_at, header_of, count_at}
-use Rattle.schedule.specs.Schedule.{fault_at}
-use Rattle.schedule.specs.Files.{Spelling, BreaksForm, WrongCount, line_feeds}
+use Rattle.schedule.specs.Schedule.{number_of, fault_at}
+use Rattle.schedule.specs.Files.{Spelling, BreaksForm, WrongCount, Refused, line_feeds}
 use Rattle.schedule.specs.declared.fault.Fault.{Fault}
 use Rattle.schedule.proofs.Reading.InARow.{lines-ahead}
 use Rattle.schedule.proofs.RoundTrip.Header.{header_read}
@@ -28,7 +28,7 @@ pub record HeadFault (s before w : List ℕ) (flaw : Flaw) (Wrong : ℕ → Type
   pub rest : List ℕ
   pub is : s ≡ before ++ rest
   pub line : f.line ≡ line_feeds before + 1
-  pub fault : ((f.flaw ≡ Flaw.Form) × BreaksForm (Spelling Small (header_of w)) rest f.column) ⊎ ((f.flaw ≡ flaw) × WrongCount w Wrong rest f.column)
+  pub fault : (Refused f Flaw.Form 9 × BreaksForm (Spelling Small (header_of w)) rest f.column) ⊎ (Refused f flaw (number_of flaw) × WrongCount w Wrong rest f.column)
 
 -- in a line after it, which breaks the form
 pub record RowFault {A : Type 0} (s before w : List ℕ) (Allowed : ℕ → Type 0) (P : A → Type 0) (g : A → List ℕ) (f : Fault) : Type 0 where
@@ -40,14 +40,14 @@ pub record RowFault {A : Type 0} (s before w : List ℕ) (Allowed : ℕ → Type
   pub hold : Every P things
   pub is : s ≡ (before ++ (header_of w count ++ lines_of g things)) ++ rest
   pub line : f.line ≡ line_feeds (before ++ (header_of w count ++ lines_of g things)) + 1
-  pub fault : (f.flaw ≡ Flaw.Form) × BreaksForm (Spelling P g) rest f.column
+  pub fault : Refused f Flaw.Form 9 × BreaksForm (Spelling P g) rest f.column
 
 -- ---- where a section has them
 
 module _ (s : List ℕ) (at : ℕ) (before w : List ℕ) (b : Stands s 0 at before) (line : ℕ) (n : line ≡ line_feeds before + 1) where
   module _ (flaw : Flaw) (Wrong : ℕ → Type 0) where
     pub head-breaks : (p : ℕ) → (at ≤ length s → BreaksForm (Spelling Small (header_of w)) (drop at s) (p - at + 1)) → HeadFault s before w flaw Wrong (fault_at Flaw.Form line at p)
-    head-breaks p h = record { rest = drop at s; is = b.here; line = n; fault = inl (refl, h (stands-high s 0 at before b (omega arith))) }
+    head-breaks p h = record { rest = drop at s; is = b.here; line = n; fault = inl ((refl, refl), h (stands-high s 0 at before b (omega arith))) }
 
     pub head-wrong : (k a : ℕ) → header_at s at w ≡ got k a → Wrong k → HeadFault s before w flaw Wrong (fault_at flaw line at (count_at at w))
     head-wrong k a e h =
@@ -57,7 +57,7 @@ module _ (s : List ℕ) (at : ℕ) (before w : List ℕ) (b : Stands s 0 at befo
           rest = drop at s;
           is = b.here;
           line = n;
-          fault = inr (refl, record { count = k; more = drop a s; small = r.0; is = r.1.here; wrong = h; place = c });
+          fault = inr ((refl, refl), record { count = k; more = drop a s; small = r.0; is = r.1.here; wrong = h; place = c });
         }
 
   module _ {A : Type 0} (f : ℕ → Read A) (P : A → Type 0) (g : A → List ℕ) (read : (i m : ℕ) (x : A) → f i ≡ got x m → P x × Stands s i m (g x)) where
@@ -83,5 +83,5 @@ module _ (s : List ℕ) (at : ℕ) (before w : List ℕ) (b : Stands s 0 at befo
           hold = r.1;
           is = stands.here;
           line = c;
-          fault = (refl, breaks from p (stands-high s 0 from (before ++ rows) stands (omega arith)) l.broke);
+          fault = ((refl, refl), breaks from p (stands-high s 0 from (before ++ rows) stands (omega arith)) l.broke);
         }
