@@ -8,7 +8,7 @@ ghost use Rattle.schedule.specs.Private.{ValuesAre, StepsAre, FormIs};
 use crate::fault::{Fault, Flaw};
 use crate::first::Values;
 use crate::header::{count_fault, heading_at};
-use crate::lf::Lined;
+use crate::lf::{Lined, Short};
 use crate::part::part_at;
 use crate::values::read_values;
 use rules::group::Group;
@@ -69,7 +69,7 @@ pub(crate) fn is_size(n: u32) -> bool
 }
 
 // The VALUES section.
-pub(crate) fn read_opening<'a>(file: Lined<'a>) -> Result<Opening, Fault>
+pub(crate) fn read_opening<'a>(file: Short<'a>) -> Result<Opening, Fault>
     ensures { ValuesAre file.entry.bytes.now result }
 {
     let (n, first) = heading_at(file, 0, b"VALUES", 1)?;
@@ -107,11 +107,11 @@ pub(crate) fn read_sections<'a>(file: Lined<'a>, n: u32, at: usize) -> Result<Pl
 }
 
 // A file's values and places, or its fault.
-pub(crate) fn form_of<'a>(file: Lined<'a>) -> Result<Form, Fault>
+pub(crate) fn form_of<'a>(file: Short<'a>) -> Result<Form, Fault>
     ensures { FormIs file.entry.bytes.now result }
 {
     let opening = read_opening(file)?;
     let values = opening.values;
-    let places = read_sections(file, values.n, opening.at)?;
+    let places = read_sections(Lined::new(file), values.n, opening.at)?;
     Ok(Form { values, places })
 }

@@ -7,7 +7,7 @@ ghost use Rattle.schedule.specs.Private.{heading_at};
 ghost use Rattle.schedule.specs.Schedule.{fault_at};
 
 use crate::fault::{Fault, Flaw};
-use crate::lf::Lined;
+use crate::lf::Short;
 use crate::line::spaced_at;
 use crate::number::closed;
 use text::look::Tested;
@@ -51,7 +51,7 @@ pub fn heading(s: &[u8], at: usize, word: &[u8]) -> Result<(u32, usize), Broken>
 // The same of a file in which it is the line-th line: the fault of its form where it breaks it.
 // The file and the place stay two parameters, here and in what reads a part: each function is given a place and answers the next, as its definition does (`Schedule.part_at`). What moves along a file is the `Reader`.
 pub(crate) fn heading_at<'a>(
-    file: Lined<'a>,
+    file: Short<'a>,
     at: usize,
     word: &[u8],
     line: u32,

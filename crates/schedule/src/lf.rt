@@ -24,18 +24,16 @@ impl Look for Untested {
     }
 }
 
-// The bytes of a file that is not too long, and the place after its last LF; 0 where it has none.
+// The bytes of a file that is not too long.
 #[derive(Clone, Copy)]
-pub(crate) struct Lined<'a> {
+pub(crate) struct Short<'a> {
     pub bytes: &'a [u8],
-    pub end: usize,
     ghost short: { length bytes.now ≤ longest },
-    ghost last: { LastLf bytes.now end },
 }
 
-impl<'a> Lined<'a> {
+impl<'a> Short<'a> {
     // Too long a file is refused before any line is read.
-    pub(crate) fn new(bytes: &'a [u8]) -> Result<Lined<'a>, Fault>
+    pub(crate) fn new(bytes: &'a [u8]) -> Result<Short<'a>, Fault>
         ensures { MatchResult result (λ file. file.bytes ≡ bytes.entry) (λ fault. read_file bytes.entry.now ≡ Err fault) }
     {
         if File::LONGEST < bytes.len() {
@@ -45,10 +43,29 @@ impl<'a> Lined<'a> {
                 column: 0,
             });
         }
+        Ok(Short { bytes })
+    }
+}
+
+// The same, and the place after its last LF; 0 where it has none.
+#[derive(Clone, Copy)]
+pub(crate) struct Lined<'a> {
+    pub bytes: &'a [u8],
+    pub end: usize,
+    ghost short: { length bytes.now ≤ longest },
+    ghost last: { LastLf bytes.now end },
+}
+
+impl<'a> Lined<'a> {
+    // The bytes are looked at from the end on, so that it costs as much as stands behind the last LF: it is called once the values are read, and a file that is faulty in them is not searched.
+    pub(crate) fn new(file: Short<'a>) -> Lined<'a>
+        ensures { result.bytes ≡ file.entry.bytes }
+    {
+        let bytes = file.bytes;
         let end = match bytes.iter().rposition(|byte| *byte == b'\n') {
             Some(k) => k + 1,
             None => 0,
         };
-        Ok(Lined { bytes, end })
+        Lined { bytes, end }
     }
 }

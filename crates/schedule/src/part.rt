@@ -5,7 +5,7 @@ ghost use Rattle.schedule.specs.Private.{PartIs};
 
 use crate::fault::{Fault, Flaw};
 use crate::header::{count_fault, heading_at};
-use crate::lf::Lined;
+use crate::lf::{Lined, Short};
 use crate::section::check_steps;
 
 // How many steps a part has, the place of the first step line and the place after the last.
@@ -27,7 +27,8 @@ pub(crate) fn part_at<'a>(
     requires { (line + left + 1 < 2 ^ 32) × (at ≤ length file.bytes.now) }
     ensures { PartIs file.entry.bytes.now at word.now line left result }
 {
-    let (count, start) = heading_at(file, at, word, line)?;
+    let short = Short { bytes: file.bytes };
+    let (count, start) = heading_at(short, at, word, line)?;
     if left < count {
         return Err(count_fault(Flaw::Size, line, at, word));
     }

@@ -6,7 +6,7 @@ ghost use Rattle.schedule.specs.Private.{RunReady, RanTo, BothReady, BothRan, Fo
 use crate::counts::Counts;
 use crate::fault::Fault;
 use crate::file::{Form, Places, form_of};
-use crate::lf::Lined;
+use crate::lf::{Lined, Short};
 use crate::reader::Reader;
 use rules::group::Group;
 
@@ -93,7 +93,7 @@ pub(crate) fn run_sound<'a>(
 pub fn run(file: &[u8], store: &mut [u64], depths: &mut [u16]) -> Result<Ran, Fault>
     ensures { runs.ran_over result store.new depths.new ≡ runs.run_of file.now store.old depths.old }
 {
-    let lined = Lined::new(file)?;
-    let form = form_of(lined)?;
-    Ok(run_sound(lined, form, store, depths))
+    let short = Short::new(file)?;
+    let form = form_of(short)?;
+    Ok(run_sound(Lined::new(short), form, store, depths))
 }
