@@ -13,7 +13,7 @@ use Rattle.rules.specs.Limits.{among}
 use Rattle.rules.specs.Tally.{holds, joined, meets, within}
 use Rattle.rules.specs.Layout.{process_at, with_process, depth_at, with_depth, blank_group}
 use Rattle.rules.specs.Records.{blank}
-use Rattle.rules.specs.Layout.{record_if, record_of, depth_if, depth_of}
+use Rattle.rules.specs.Look.{record_if, record_of, depth_if, depth_of}
 use Rattle.rules.specs.Store.{place_of, entry_for, hand_over, one, repeats, cleared}
 use Rattle.rules.specs.Events.{takes, enters, joins_estimates, joins_suspicions, decides, second_phase, marks, paused, crashed, recovered, quiet}
 use Rattle.rules.specs.Events.{changed, jumps_if, jumps, relays_if, relays, decides_if, decides_at, goes_to_phase2, goes_to_phase2_if, to_phase2}

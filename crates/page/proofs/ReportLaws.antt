@@ -7,7 +7,7 @@ use lib.ListN.{length, drop}
 use Rattle.std.specs.Prelude.{Bool, true, false, Result, Ok, Err}
 use Rattle.text.specs.Number.{pick}
 use Rattle.rules.specs.Limits.{greatest_size}
-use Rattle.rules.specs.Layout.{record_of, depth_of}
+use Rattle.rules.specs.Look.{record_of, depth_of}
 use Rattle.rules.specs.Start.{started}
 use Rattle.rules.specs.Run.{State, start_state, next, after}
 use Rattle.rules.specs.declared.group.Group.{Group}

@@ -1,6 +1,6 @@
 -- Document 01, "The schedule file and the report": the report's bytes. Each `#` of a template stands for a number. Assumes nothing.
 use Rattle.std.specs.Prelude.{◌≡◌, List, [], ◌∷◌, ◌++◌, ℕ, zero, suc, Result, Ok, Err}
-use Rattle.rules.specs.Layout.{record_of, depth_of}
+use Rattle.rules.specs.Look.{record_of, depth_of}
 use Rattle.rules.specs.declared.group.Group.{Group}
 use Rattle.rules.specs.declared.process.Process.{Process}
 use Rattle.text.specs.Number.{pick}

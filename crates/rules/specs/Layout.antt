@@ -1,11 +1,11 @@
--- How a group keeps its records and depths, and the look at one process: each stands with its record and its depth, one after the other. All that is used of it is that what is put in
+-- How a group keeps its records and depths: each process stands with its record and its depth, one after the other. A reader may skip this page: all that is used of it is that what is put in
 -- for a process comes out, and that everything else stays (`process-put`, `process-kept`, `depth-put`, `depth-kept`, `process-deep`, `depth-with`, `process-forgets` in proofs/Laws/Group.antt).
 -- Assumes nothing.
-use Rattle.std.specs.Prelude.{◌≡◌, Bool, true, false, List, ℕ, ◌-◌, length, get_or, set, replicate, map}
+use Rattle.std.specs.Prelude.{◌≡◌, List, ℕ, ◌-◌, length, get_or, set, replicate, map}
 use Rattle.rules.specs.declared.group.Group.{Group}
 use Rattle.rules.specs.declared.group.Member.{Member}
 use Rattle.rules.specs.declared.process.Process.{Process}
-use Rattle.rules.specs.Limits.{greatest_size, among}
+use Rattle.rules.specs.Limits.{greatest_size}
 use Rattle.rules.specs.Records.{blank}
 
 -- a group of size n; process i stands at i - 1
@@ -54,21 +54,3 @@ shallow m = member_with m.process 0
 
 unfoldable pub forgetting : Group → Group
 forgetting g = group_of g.n (map shallow g.members)
-
--- ---- the look
-
-unfoldable pub record_if : Bool → Group → ℕ → Process
-record_if true g i = process_at g i
-record_if false g i = blank
-
--- the record of process i for everybody outside: a blank one where i is not 1 to 16
-unfoldable pub record_of : Group → ℕ → Process
-record_of g i = record_if (among greatest_size i) g i
-
--- so its depth: 0 where i is not 1 to 16
-unfoldable pub depth_if : Bool → Group → ℕ → ℕ
-depth_if true g i = depth_at g i
-depth_if false g i = 0
-
-unfoldable pub depth_of : Group → ℕ → ℕ
-depth_of g i = depth_if (among greatest_size i) g i

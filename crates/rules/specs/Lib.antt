@@ -6,6 +6,7 @@ pub mod Limits
 pub mod Tally
 pub mod Records
 pub mod Layout
+pub mod Look
 pub mod Store
 -- "Steps" and "Repairs to the printed figure"
 pub mod Events

@@ -2,6 +2,7 @@
 ghost use Rattle.std.specs.Prelude.{◌≡◌, ◌||◌, ◌&&◌, ◌≤◌, eqb, leb};
 ghost use Rattle.rules.specs.Limits as limits;
 ghost use Rattle.rules.specs.Layout as layout;
+ghost use Rattle.rules.specs.Look as looks;
 ghost use Rattle.rules.specs.Refusals as refusals;
 
 use crate::process::Process;
@@ -115,9 +116,9 @@ impl Group {
     }
 
     // Process i, and nobody where i is not 1 to 16.
-    #[tactic(auto, using(crate::proofs::Laws::Row::among_in), unfolding(crate::specs::Layout::process_at, crate::specs::Layout::depth_at, crate::specs::Records::blank, crate::specs::Layout::record_of, crate::specs::Layout::depth_of, crate::specs::Layout::record_if, crate::specs::Layout::depth_if, crate::specs::Limits::among))]
-    pub(crate) fn look(&self, i: u32) -> Member
-        ensures { (result.process ≡ layout.record_of self.now i) × (result.depth ≡ layout.depth_of self.now i) }
+    #[tactic(auto, using(crate::proofs::Laws::Row::among_in), unfolding(crate::specs::Layout::process_at, crate::specs::Layout::depth_at, crate::specs::Records::blank, crate::specs::Look::record_of, crate::specs::Look::depth_of, crate::specs::Look::record_if, crate::specs::Look::depth_if, crate::specs::Limits::among))]
+    pub(crate) fn look(self, i: u32) -> Member
+        ensures { (result.process ≡ looks.record_of self i) × (result.depth ≡ looks.depth_of self i) }
     {
         if !(1..=Group::GREATEST as u32).contains(&i) {
             return Member::nobody();
@@ -127,14 +128,14 @@ impl Group {
 
     // The record of process i, and a blank one where i is not 1 to 16.
     pub fn process(self, i: u32) -> Process
-        ensures { result ≡ layout.record_of self i }
+        ensures { result ≡ looks.record_of self i }
     {
         self.look(i).process
     }
 
     // The depth of a process, and 0 where its number is not 1 to 16. Of a process that has decided it is the decision's: its number of communication steps.
     pub fn depth(self, process: u32) -> u16
-        ensures { result ≡ layout.depth_of self process }
+        ensures { result ≡ looks.depth_of self process }
     {
         self.look(process).depth
     }

@@ -12,7 +12,7 @@ use std::rt::{Env, Files};
 use std::{fs, io};
 
 // The store and the depths of its messages, which every report is lent.
-#[derive(Drop)]
+#[derive(Clone, Copy)]
 struct Stores {
     store: [u64; Store::LENGTH],
     depths: [u16; Store::LENGTH],

@@ -19,7 +19,7 @@ use Rattle.rules.specs.declared.process.Message.TheVariants.{E, S, F, Decision}
 use Rattle.rules.specs.Limits.{greatest_size, last_round, store_length, majority, among}
 use Rattle.rules.specs.Tally.{holds, joined, meets, count}
 use Rattle.rules.specs.Layout.{process_at, with_process, Sized}
-use Rattle.rules.specs.Layout.{record_if, record_of}
+use Rattle.rules.specs.Look.{record_if, record_of}
 use Rattle.rules.specs.Store.{slot, decision_slot, kind_e, kind_f, entry_of, place_of, message_round, entry_for, hand_over}
 use Rattle.rules.proofs.Laws.Store.{place_by}
 use Rattle.rules.specs.Step.{hand_overs}

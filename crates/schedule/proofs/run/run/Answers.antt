@@ -23,6 +23,6 @@ run_sound-requires c =
 
 pub returns : goal.returns
 returns c =
-    let same : c.in_ok-short.short.bytes.now ≡ c.args.file.now = ap (λ (f : Bor (List ℕ)). f.now) (rw c.in_ok-short.was at c.new.ensures) in
-    let kept : c.new-2.result.bytes.now ≡ c.in_ok-short.short.bytes.now = ap (λ (f : Bor (List ℕ)). f.now) c.new-2.ensures in
-    run-good _ (rw same at c.form_of.ensures) c.in_ok-form.was _ _ _ _ _ (rw (kept, same) at c.run_sound.ensures)
+    let whole : c.in_ok-short.short.bytes.now ≡ c.args.file.now = ap (λ (f : Bor (List ℕ)). f.now) (rw c.in_ok-short.was at c.new.ensures) in
+    let held : c.new-2.result.bytes.now ≡ c.in_ok-short.short.bytes.now = ap (λ (f : Bor (List ℕ)). f.now) c.new-2.ensures in
+    run-good _ (rw whole at c.form_of.ensures) c.in_ok-form.was _ _ _ _ _ (rw (held, whole) at c.run_sound.ensures)
