@@ -71,7 +71,7 @@ impl Member {
 
 impl Group {
     // The most processes that a group has.
-    pub const GREATEST: usize = 16;
+    pub const GREATEST: usize = Size::GREATEST;
 
     // The greatest depth that a process can have.
     pub const DEEPEST: u16 = 3088;

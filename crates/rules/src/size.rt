@@ -2,7 +2,6 @@
 ghost use Rattle.std.specs.Prelude.{◌≡◌, ℕ, ◌≤◌};
 ghost use Rattle.rules.specs.Limits as limits;
 
-use crate::group::Group;
 use std::marker::Model;
 
 // The size of a group that is not damaged. A clause sees the number.
@@ -38,12 +37,15 @@ impl Model for Id {
 }
 
 impl Size {
+    // The greatest size.
+    pub(crate) const GREATEST: usize = 16;
+
     // The size of a group of n, if a group may have it.
     #[tactic(auto, unfolding(crate::specs::Limits::some_if, crate::specs::Limits::among))]
     pub(crate) fn new(n: usize) -> Option<Size>
         ensures { result ≡ limits.if_among limits.greatest_size n }
     {
-        if !(1..=Group::GREATEST).contains(&n) {
+        if !(1..=Size::GREATEST).contains(&n) {
             return None;
         }
         Some(Size { n: n as u8 })

@@ -8,6 +8,7 @@ ghost use Rattle.schedule.specs.Private.{ValuesAre, StepsAre, FormIs};
 use crate::fault::{Fault, Flaw};
 use crate::first::Values;
 use crate::header::{count_fault, heading_at};
+use crate::lf;
 use crate::lf::{Lined, Short};
 use crate::part::part_at;
 use crate::values::read_values;
@@ -19,7 +20,7 @@ pub struct File {}
 
 impl File {
     // "A schedule file has at most 65,535 bytes and at most 4,096 steps in all."
-    pub const LONGEST: usize = 65535;
+    pub const LONGEST: usize = lf::LONGEST;
 
     pub const MOST_STEPS: u32 = 4096;
 

@@ -7,7 +7,6 @@ ghost use Rattle.schedule.specs.Private.{LastLf};
 ghost use Rattle.schedule.specs.Schedule.{read_file};
 
 use crate::fault::{Fault, Flaw};
-use crate::file::File;
 use text::look::Look;
 
 // How a byte is looked at where an LF stands there or ahead: with no test for the file's end.
@@ -24,6 +23,9 @@ impl Look for Untested {
     }
 }
 
+// How many bytes a file has at most.
+pub(crate) const LONGEST: usize = 65535;
+
 // The bytes of a file that is not too long.
 #[derive(Clone, Copy)]
 pub(crate) struct Short<'a> {
@@ -36,7 +38,7 @@ impl<'a> Short<'a> {
     pub(crate) fn new(bytes: &'a [u8]) -> Result<Short<'a>, Fault>
         ensures { MatchResult result (λ file. file.bytes ≡ bytes.entry) (λ fault. read_file bytes.entry.now ≡ Err fault) }
     {
-        if File::LONGEST < bytes.len() {
+        if LONGEST < bytes.len() {
             return Err(Fault {
                 flaw: Flaw::Size,
                 line: 0,
