@@ -71,7 +71,7 @@ abbrev size_of : Result Ran Fault → ℕ
 size_of (Err f) = 0
 size_of (Ok r) = r.group.n
 
-ran-size : (s l d : List ℕ) → size_of (run_of s l d).ran ≤ 16
+pub ran-size : (s l d : List ℕ) → size_of (run_of s l d).ran ≤ 16
 unfolding run_of run_by has_run start_state started
 ran-size s l d = go (read_file s)
   where

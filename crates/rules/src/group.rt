@@ -117,8 +117,8 @@ impl Group {
 
     // Process i, and nobody where i is not 1 to 16.
     #[tactic(auto, using(crate::proofs::Laws::Row::among_in), unfolding(crate::specs::Layout::process_at, crate::specs::Layout::depth_at, crate::specs::Records::blank, crate::specs::Look::record_of, crate::specs::Look::depth_of, crate::specs::Look::record_if, crate::specs::Look::depth_if, crate::specs::Limits::among))]
-    pub(crate) fn look(self, i: u32) -> Member
-        ensures { (result.process ≡ looks.record_of self i) × (result.depth ≡ looks.depth_of self i) }
+    pub(crate) fn look(&self, i: u32) -> Member
+        ensures { (result.process ≡ looks.record_of self.now i) × (result.depth ≡ looks.depth_of self.now i) }
     {
         if !(1..=Group::GREATEST as u32).contains(&i) {
             return Member::nobody();
